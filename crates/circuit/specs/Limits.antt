@@ -1,0 +1,8 @@
+-- The most inputs and gates that a circuit may have. Assumes nothing.
+use Prim.Native.Nat.{ℕ}
+
+abbrev pub maxInputs : ℕ
+maxInputs = 30
+
+abbrev pub maxGates : ℕ
+maxGates = 4096

@@ -1,0 +1,5 @@
+mod reading;
+
+pub use reading::MAX_GATES;
+pub use reading::MAX_INPUTS;
+pub use reading::Reading;
