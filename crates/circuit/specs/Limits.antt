@@ -6,3 +6,7 @@ maxInputs = 30
 
 abbrev pub maxGates : ℕ
 maxGates = 4096
+
+-- the most inputs of a circuit whose rows are gone through one by one
+abbrev pub maxTableInputs : ℕ
+maxTableInputs = 16

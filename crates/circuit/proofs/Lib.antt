@@ -1,0 +1,9 @@
+pub mod Words
+pub mod Gates
+pub mod Rows
+pub mod Carried
+pub mod Laid
+pub mod Lanes
+pub mod Packed
+pub mod WordRows
+pub mod Counts
