@@ -1,5 +1,5 @@
 -- What false, AND and inverse keep between a value and a bit, the circuit carries from the inputs to the output.
-use mathlib.Core.Path.{_≡_, refl, sym, ap, subst, _∙_}
+use mathlib.Core.Path.{_≡_, sym, ap, subst, _∙_}
 use mathlib.Core.Bool.{Bool, true, false, not, _&&_, cond}
 use mathlib.Core.List.{List, [], _∷_, _++_}
 use Prim.Native.Nat.{ℕ, zero, suc, _+_, _-_, _/_, _%_, _<_}
@@ -9,7 +9,7 @@ use lib.Dec.{eqb}
 use lib.ListN.{length, getD, take, drop}
 use Rattle.std.proofs.shelf.Lists.{getD-take, getD-drop, length-take, length-drop}
 use Rattle.circuit.specs.Kinds.{Ops, bitAt}
-use Rattle.circuit.specs.Circuits.{bits, literal, grown, variables}
+use Rattle.circuit.specs.Circuits.{bits, literal, grown}
 use Rattle.circuit.specs.Solutions.{inputBits, solves}
 use Rattle.circuit.specs.Answers.{outputOf}
 use Rattle.circuit.proofs.Rows.{length-per, at-per}

@@ -1,13 +1,12 @@
 -- One gate more, and the value table that the evaluator leaves.
-use mathlib.Core.Path.{_≡_, refl, sym, ap, _∙_}
-use mathlib.Core.List.{List, [], _∷_, _++_, append-assoc, append-nil}
-use Prim.Native.Nat.{ℕ, zero, suc, _+_, _-_, _*_, _/_, _%_, _<_, _≤_}
-use native.Mathlib.Nat.{add-comm}
+use mathlib.Core.Path.{_≡_, sym, ap, _∙_}
+use mathlib.Core.List.{List, [], _∷_, _++_, append-nil}
+use Prim.Native.Nat.{ℕ, _+_, _-_, _*_, _/_, _<_}
 use native.Mathlib.Numerals.{add-one}
 use native.Mathlib.Omega.{arith}
-use lib.ListN.{length, getD, take, drop, set, take-append-drop, length-set}
+use lib.ListN.{length, getD, take, drop, set, take-append-drop}
 use borrow.Rule.Slice.PartMut.{putMid, postOf}
-use Rattle.std.proofs.shelf.Lists.{getD-take, getD-drop, getD-append-left, length-append, length-take, take-more-set, drop-more, take-rest, drop-set-add, take-set-le, drop-set-lt, drop-all, length-drop}
+use Rattle.std.proofs.shelf.Lists.{getD-take, getD-append-left, length-append, length-take, take-more-set, drop-more, take-rest, drop-set-add, take-set-le, drop-set-lt, drop-all, length-drop}
 use Rattle.circuit.specs.Kinds.{Ops}
 use Rattle.circuit.specs.Circuits.{either, literal, grown, variables}
 use Rattle.circuit.specs.Answers.{tableWith, outputOf}

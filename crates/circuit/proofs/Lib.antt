@@ -7,3 +7,5 @@ pub mod Lanes
 pub mod Packed
 pub mod WordRows
 pub mod Counts
+pub mod Consistent
+pub mod Inverted

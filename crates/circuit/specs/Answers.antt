@@ -4,7 +4,7 @@
 use mathlib.Core.Path.{_≡_}
 use mathlib.Core.Bool.{Bool, true, cond}
 use mathlib.Core.List.{List, _++_}
-use Prim.Native.Nat.{ℕ, _+_, _-_, _<_, _/_}
+use Prim.Native.Nat.{ℕ, _+_, _-_, _*_, _<_, _/_}
 use lib.Dec.{ltb}
 use lib.ListN.{length, getD, take, drop}
 use Rattle.std.specs.declared.result.Result.{Result}
@@ -37,6 +37,13 @@ afterWith o inputs gates held vs = cond (ltb (highest inputs gates) (length vs))
 -- the value table after the evaluation
 abbrev pub tableAfter : {X : Type 0} → Ops X → ℕ → List ℕ → List X → List X
 tableAfter o inputs gates vs = afterWith o inputs gates (take inputs (drop 1 vs)) vs
+
+-- the value table and the output by what they have to do with each other
+pub record Consistent {X : Type 0} (o : Ops X) (inputs output : ℕ) (gates : List ℕ) (vs : List X) (v : X) : Type 0 where
+  pub place0 : getD vs 0 (o .falsity) ≡ o .falsity
+  pub gate : (k : ℕ) → k < length gates / 2
+      → getD vs (inputs + 1 + k) (o .falsity) ≡ o .both (literal o vs (getD gates (2 * k) 0)) (literal o vs (getD gates (2 * k + 1) 0))
+  pub out : v ≡ literal o vs output
 
 -- in this lane the inputs' places allow the row's bits
 abbrev pub AllowsRow : {X : Type 0} → (X → ℕ → Bool → Bool) → X → ℕ → List X → ℕ → ℕ → Type 0

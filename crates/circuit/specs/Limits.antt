@@ -7,6 +7,6 @@ maxInputs = 30
 abbrev pub maxGates : ℕ
 maxGates = 4096
 
--- the most inputs of a circuit whose rows are gone through one by one
+-- the most inputs of a circuit whose rows are all gone through, as in a table
 abbrev pub maxTableInputs : ℕ
 maxTableInputs = 16

@@ -4,7 +4,8 @@
 -- Assumes nothing.
 use mathlib.Core.Bool.{Bool, cond}
 use mathlib.Core.List.{List, [], _∷_}
-use Prim.Native.Nat.{ℕ, zero, suc, _+_, _^_}
+use Prim.Native.Nat.{ℕ, zero, suc, _+_, _-_, _%_, _^_}
+use lib.Dec.{eqb}
 use Rattle.circuit.specs.Circuits.{bits, literal, variables}
 use Rattle.circuit.specs.Kinds.{bitAt}
 
@@ -29,3 +30,7 @@ countBelow p (suc k) = cond (p k) 1 0 + countBelow p k
 -- how many rows are solutions
 abbrev pub solutionCount : ℕ → ℕ → List ℕ → ℕ
 solutionCount inputs output gates = countBelow (solves inputs output gates) (2 ^ inputs)
+
+-- the literal of a literal's inverse
+abbrev pub inverted : ℕ → ℕ
+inverted l = cond (eqb (l % 2) 1) (l - 1) (l + 1)

@@ -6,7 +6,7 @@ ghost use lib.ListN.{length, getD, set, take, drop};
 ghost use Rattle.std.specs.Vec.{made};
 ghost use Rattle.circuit.specs.Limits.{maxGates};
 ghost use Rattle.circuit.specs.Circuits.{either, literal, grown};
-ghost use Rattle.circuit.specs.Answers.{evaluated, tableAfter, Sound, Settles};
+ghost use Rattle.circuit.specs.Answers.{evaluated, tableAfter, Consistent, Sound, Settles};
 use crate::Circuit;
 use crate::Value;
 use faults::TableFault;
@@ -43,9 +43,9 @@ fn fill<V: Value>(gates: &[u32], first: usize, values: &mut [V])
     ensures { λ _. ⌜ now (values .exit) ≡ grown ops (now (gates .entry)) (take first (now (values .entry))) ++ drop (first + length (now (gates .entry)) / 2) (now (values .entry)) ⌝ }
 {
     for k in 0..gates.len() / 2 {
-        let larger = operand(values, gates[2 * k]);
-        let smaller = operand(values, gates[2 * k + 1]);
-        store(&mut values[first..], k, larger.and(smaller));
+        let left = operand(values, gates[2 * k]);
+        let right = operand(values, gates[2 * k + 1]);
+        store(&mut values[first..], k, left.and(right));
     }
 }
 
@@ -53,6 +53,7 @@ fn fill<V: Value>(gates: &[u32], first: usize, values: &mut [V])
 pub fn evaluate<V: Value>(circuit: &Circuit, values: &mut [V]) -> Result<V, TableFault>
     ensures value { λ r. ⌜ r ≡ evaluated ops (now (circuit .entry) .inputs) (now (circuit .entry) .output) (now (now (circuit .entry) .gates)) (now (values .entry)) ⌝ }
     ensures after { λ _. ⌜ now (values .exit) ≡ tableAfter ops (now (circuit .entry) .inputs) (now (now (circuit .entry) .gates)) (now (values .entry)) ⌝ }
+    ensures consistent { λ r. ⌜ made r (Consistent ops (now (circuit .entry) .inputs) (now (circuit .entry) .output) (now (now (circuit .entry) .gates)) (now (values .exit))) ⌝ }
     ensures sound { λ r. ⌜ made r (Sound lanes may ops (now (circuit .entry) .inputs) (now (circuit .entry) .output) (now (now (circuit .entry) .gates)) (now (values .entry))) ⌝ }
     ensures settled { λ r. ⌜ made r (Settles lanes may (ops .falsity) (now (circuit .entry) .inputs) (now (values .entry))) ⌝ }
 {

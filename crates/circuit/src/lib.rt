@@ -15,14 +15,15 @@ mod wordwise;
 
 pub use bit::Bit;
 pub use bit::BitValue;
-pub use counting::MAX_TABLE_INPUTS;
 pub use counting::count_solutions;
 pub use evaluator::evaluate;
 pub use netlist::Circuit;
+pub use patterns::LANE_PLACES;
 pub use patterns::pattern;
 pub use patterns::used_lanes;
 pub use reading::MAX_GATES;
 pub use reading::MAX_INPUTS;
+pub use reading::MAX_TABLE_INPUTS;
 pub use reading::Reading;
 pub use solving::solution;
 pub use ternary::Ternary;

@@ -7,6 +7,7 @@ ghost use denote.Ref.{now};
 ghost use Rattle.circuit.specs.Limits.{maxInputs, maxGates};
 ghost use Rattle.circuit.specs.Circuits.{highest, ordered, takenUp};
 ghost use Rattle.circuit.specs.Lanes.{words};
+use crate::LANE_PLACES;
 use crate::MAX_GATES;
 use crate::MAX_INPUTS;
 use crate::Reading;
@@ -89,10 +90,10 @@ impl<'a> Circuit<'a> {
     pub fn word_count(&self) -> u32
         ensures { λ r. ⌜ r ≡ words (now (self .entry) .inputs) ⌝ }
     {
-        if self.inputs <= 5 {
+        if self.inputs <= LANE_PLACES {
             1
         } else {
-            1 << (self.inputs - 5)
+            1 << (self.inputs - LANE_PLACES)
         }
     }
 }

@@ -1,6 +1,6 @@
 // One row at a time, by the bit kind.
 ghost use mathlib.Core.Path.{_≡_};
-ghost use Prim.Native.Nat.{ℕ, _≤_, _<_};
+ghost use Prim.Native.Nat.{_≤_, _<_};
 ghost use lib.ListN.{length};
 ghost use Rattle.circuit.specs.Limits.{maxInputs};
 ghost use Rattle.circuit.specs.Kinds.{bitOps};

@@ -1,5 +1,4 @@
 // The three-valued signal: one lane, settled unless unknown.
-ghost use mathlib.Core.Path.{_≡_};
 ghost use Rattle.circuit.specs.Kinds.{ternaryAllows, ternaryOps};
 use crate::Value;
 

@@ -1,28 +1,18 @@
 -- A list of entries, one by one, and the row that a cube and an entry share if they share any.
-use mathlib.Core.Path.{_≡_, refl, sym, _∙_, ap, ap₂}
+use mathlib.Core.Path.{_≡_, refl}
 use mathlib.Core.List.{List, [], _∷_}
-use mathlib.Core.Bool.{Bool, true, false, _||_, _&&_}
-use Prim.Native.Nat.{ℕ, zero, suc, _^_, _<_}
+use mathlib.Core.Bool.{Bool, true, false, _&&_}
+use Prim.Native.Nat.{ℕ, zero, suc, _<_}
 use native.Mathlib.Omega.{arith}
 use lib.Bits.{bitAnd, bitOr}
 use lib.ListN.{length, getD}
-use borrow.Author.Tests.{eq-eqb, eqb-true, lt-ltb, ltb-true, clash}
+use borrow.Author.Tests.{eq-eqb, eqb-true, lt-ltb, ltb-true}
+use Rattle.std.proofs.shelf.Tests.{and-parts, and-from, or-left, or-right, or-from}
 use Rattle.cubes.specs.declared.entry.Entry.{Entry}
 use Rattle.cubes.specs.Cubes.{within, holds, held, careOf, valueOf, blank, Shared, Touch}
 use Rattle.cubes.proofs.Bits.{join-left, join-right, join-le}
 
-or-left : (a b : Bool) → a ≡ true → (a || b) ≡ true
-or-left true b h = refl
-or-left false b h = absurd (clash h)
-
-or-right : (a b : Bool) → b ≡ true → (a || b) ≡ true
-or-right true b h = refl
-or-right false b h = h
-
-or-none : (a b : Bool) → a ≡ false → b ≡ false → (a || b) ≡ false
-or-none true b h k = absurd (clash (sym h))
-or-none false b h k = k
-
+-- what is not true is false
 pub not-true : (b : Bool) → (b ≡ true → ⊥) → b ≡ false
 not-true true f = absurd (f refl)
 not-true false f = refl
@@ -38,15 +28,7 @@ held-at (e ∷ es) (suc i) row lt h = or-right _ (held es row) (held-at es i row
 
 pub held-none : (es : List Entry) (row : ℕ) → ((i : ℕ) → i < length es → holdsAt es i row ≡ false) → held es row ≡ false
 held-none [] row f = refl
-held-none (e ∷ es) row f = or-none _ (held es row) (f 0 (omega arith)) (held-none es row (λ i lt. f (suc i) (omega arith)))
-
-both : (a b : Bool) → (a && b) ≡ true → (a ≡ true) × (b ≡ true)
-both true b h = (refl, h)
-both false b h = absurd (clash h)
-
-and-both : (a b : Bool) → a ≡ true → b ≡ true → (a && b) ≡ true
-and-both true b h k = k
-and-both false b h k = absurd (clash h)
+held-none (e ∷ es) row f = or-from _ (held es row) (f 0 (omega arith)) (held-none es row (λ i lt. f (suc i) (omega arith)))
 
 -- if the cube and the entry share a row, they share the OR of their values
 module _ (n care value : ℕ) (e : Entry) where
@@ -68,10 +50,10 @@ module _ (n care value : ℕ) (e : Entry) where
 
   pub sharing-so : sharing ≡ true → Touch n care value e
   sharing-so h =
-      let p = both _ _ h in
-      let q = both _ _ (p .0) in
+      let p = and-parts _ _ h in
+      let q = and-parts _ _ (p .0) in
       (bitOr value (valueOf e), record { below = ltb-true _ _ (q .0); inside = q .1; held = p .1 })
 
   pub so-sharing : Touch n care value e → sharing ≡ true
   so-sharing t =
-      let s = touching t in and-both _ _ (and-both _ _ (lt-ltb _ _ (s .below)) (s .inside)) (s .held)
+      let s = touching t in and-from _ _ (and-from _ _ (lt-ltb _ _ (s .below)) (s .inside)) (s .held)

@@ -1,13 +1,13 @@
--- Cubes of rows and the register's entries. Assumes nothing.
---
--- row of n inputs: a number below 2 ^ n, a bit for each input
--- cube: two numbers below numberLimit; an input is fixed where its bit of care is 1, and open where it is 0
--- within: the number has the cube's value at each input that the cube fixes
--- holds: the cube holds the row, with n inputs
--- entry: two words, each a kind in its top two bits and a number in its low 30; its cube are the two numbers, whatever the kinds
--- held: some entry's cube holds the row
--- Touch: the cube and the entry share a row of n inputs
--- Touches: the place of the first entry that the cube touches, or none
+-- Cubes of rows and the register's entries.
+--   row       a number below 2 ^ n: a bit for each of n inputs
+--   cube      two numbers below numberLimit: an input is fixed to its bit of value where its bit of care is 1, else open
+--   within    the number has the cube's value at each input that the cube fixes
+--   holds     the cube holds the row, with n inputs
+--   entry     two words, each a kind in its top two bits and a number in its low 30: a cube, whatever the kinds
+--   held      some entry of the list holds the row
+--   Touch     the cube and the entry share a row
+--   Touches   the place of the first entry that the cube touches, or none
+-- Assumes nothing.
 use mathlib.Core.Path.{_≡_}
 use mathlib.Core.List.{List, [], _∷_}
 use mathlib.Core.Bool.{Bool, true, false, _||_, _&&_}
@@ -30,7 +30,7 @@ holds n care value row = ltb row (2 ^ n) && within care value row
 
 -- ---- entries
 
--- a word of a kind
+-- a word of a kind: 1 for a waiver's care, 2 for a listed cube's care, 3 for a value
 abbrev pub word : ℕ → ℕ → ℕ
 word kind number = kind * numberLimit + number
 

@@ -1,8 +1,7 @@
--- What a decider answers. Assumes nothing.
---
--- question: a cube, a wanted bit and a list of barred entries
--- Fitting: a row of n inputs in the cube, that no barred entry holds, in the set where the wanted bit is true and outside it where it is false
--- Answer: a fitting row, or nothing where no row fits
+-- What a decider answers to a question: a cube, a wanted bit and a list of barred entries.
+--   Fitting   a row of n inputs in the cube that no barred entry holds, in the set if the wanted bit is true, else outside it
+--   Answer    a fitting row, or nothing where no row fits
+-- Assumes nothing.
 use mathlib.Core.Path.{_≡_}
 use mathlib.Core.List.{List}
 use mathlib.Core.Bool.{Bool, true, false}

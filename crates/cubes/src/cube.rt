@@ -1,6 +1,6 @@
 // A cube: the rows that have its value at the inputs that it fixes.
 ghost use mathlib.Core.Path.{_≡_};
-ghost use Prim.Native.Nat.{ℕ, _%_, _^_, _<_};
+ghost use Prim.Native.Nat.{_%_, _^_, _<_};
 ghost use lib.Dec.{ltb};
 ghost use Rattle.std.specs.Options.{Cases};
 ghost use Rattle.cubes.specs.Cubes.{numberLimit, holds, within};

@@ -1,17 +1,19 @@
 use mathlib.Core.Path.{_≡_, sym, ap, ap₂, subst, _∙_}
-use mathlib.Core.Bool.{Bool, true}
+use mathlib.Core.Bool.{true}
 use mathlib.Core.List.{_++_}
 use Prim.Native.Nat.{_+_, _-_, _/_, _<_}
 use native.Mathlib.Omega.{arith}
 use lib.ListN.{length, getD, set, take, drop}
 use Rattle.std.specs.declared.result.Result.the-variants.{Ok}
 use Rattle.std.specs.Options.{isSome}
+use Rattle.std.proofs.shelf.Lists.{length-take, length-drop}
 use Rattle.std.proofs.shelf.Tests.{lt-ltb, cond-true}
 use Rattle.circuit.specs.Kinds.{Settled, only}
 use Rattle.circuit.specs.Circuits.{literal, grown}
 use Rattle.circuit.specs.Solutions.{solves}
 use Rattle.circuit.specs.Answers.{tableWith, outputOf}
 use Rattle.circuit.proofs.Gates.{table-is, output-is}
+use Rattle.circuit.proofs.Consistent.{consistent}
 use Rattle.circuit.proofs.Carried.{carried}
 use Rattle.circuit.proofs.evaluator.evaluate.Needs as need
 
@@ -34,6 +36,8 @@ returns g c =
     record {
       value = ap Ok is ∙ sym (cond-true _ _ _ (lt-ltb _ _ room));
       after = last ∙ sym (cond-true _ _ _ (lt-ltb _ _ room));
+      consistent = consistent o n (circuit .output) gates (take n (drop 1 vs)) (drop (n + 1 + length gates / 2) vs) (c .fill .last .values) (c .operand .result)
+          (simp (length-take, length-drop) (omega arith)) (circuit .below) last (c .operand .ensures ∙ ap (literal o (c .fill .last .values)) (c .output .ensures));
       sound = λ row lane h a.
           subst (λ v. g .V·Value .may v lane (solves n (circuit .output) gates row) ≡ true) (sym is)
           (carried o (λ v b. g .V·Value .may v lane b ≡ true) (laws .nothing lane h .0) (λ u w p q. laws .joins u w lane p q h) (λ u p. laws .flips u lane p h)

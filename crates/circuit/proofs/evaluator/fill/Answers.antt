@@ -1,6 +1,6 @@
-use mathlib.Core.Path.{_≡_, refl, sym, ap, _∙_}
+use mathlib.Core.Path.{_≡_, sym, ap, _∙_}
 use mathlib.Core.List.{_++_}
-use Prim.Native.Nat.{_+_, _-_, _*_, _/_, _<_, _≤_}
+use Prim.Native.Nat.{_+_, _-_, _*_, _/_, _<_}
 use native.Mathlib.Nat.{add-assoc}
 use native.Mathlib.Omega.{arith}
 use lib.ListN.{length, getD, set, drop, take, take-append-drop}
@@ -22,7 +22,7 @@ loop-k-again g c =
     let low : getD gates (2 * k) 0 / 2 < first + k = omega (arith, c .pre .below (2 * k) (omega arith)) in
     let high : getD gates (2 * k + 1) 0 / 2 < first + k = omega (arith, c .pre .below (2 * k + 1) (omega arith)) in
     let put : putMid first (length vs - first) vs (c .store .last .part) ≡ set vs (first + k) v = stored vs _ first k v inside (c .store .ensures) in
-    let gate = gate-more o gates vs (first + k) k v (omega arith) inside low high (c .and .ensures ∙ (λ i. o .both (c .operand-larger .ensures i) (c .operand-smaller .ensures i))) in
+    let gate = gate-more o gates vs (first + k) k v (omega arith) inside low high (c .and .ensures ∙ (λ i. o .both (c .operand-left .ensures i) (c .operand-right .ensures i))) in
     let end = first + length gates / 2 in (
       (λ i. grown o (drop (2 * (k + 1)) gates) (take (sym (add-assoc first k 1) i) (put i))) ∙ sym gate ∙ c .loop-k .inv .0,
       ap (drop end) put ∙ drop-set-lt end vs (first + k) v (omega arith) ∙ c .loop-k .inv .1,

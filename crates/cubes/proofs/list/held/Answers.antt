@@ -1,5 +1,5 @@
 use mathlib.Core.Path.{_≡_, sym}
-use mathlib.Core.Bool.{true, false}
+use mathlib.Core.Bool.{true}
 use native.Mathlib.Omega.{arith}
 use Rattle.cubes.proofs.Entries.{holdsAt, held-at, held-none}
 use Rattle.cubes.proofs.list.held.Needs as need

@@ -1,0 +1,12 @@
+pub mod Carried
+pub mod NumberTexts
+pub mod HeaderTexts
+pub mod LiteralTexts
+pub mod GateTexts
+pub mod Run
+pub mod SymbolTexts
+pub mod SymbolsBack
+pub mod SymbolsRead
+pub mod Apart
+pub mod Whole
+pub mod Exact

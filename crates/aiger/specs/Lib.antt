@@ -1,0 +1,5 @@
+pub mod FaultLines
+pub mod Lines
+pub mod Symbols
+pub mod Reads
+pub mod Grammar

@@ -1,0 +1,5 @@
+pub mod Limits
+pub mod Widest
+pub mod Calls
+pub mod Stories
+pub mod Theorem

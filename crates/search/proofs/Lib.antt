@@ -1,0 +1,5 @@
+pub mod Opens
+pub mod Halves
+pub mod Lows
+pub mod Touching
+pub mod Allowed

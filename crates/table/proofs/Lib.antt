@@ -1,0 +1,4 @@
+pub mod Masks
+pub mod Lowest
+pub mod Questions
+pub mod Made
