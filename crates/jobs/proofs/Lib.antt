@@ -1,0 +1,6 @@
+mod Runs
+mod Stages
+mod RunStories
+mod Prints
+mod Circuits
+mod Tellings
