@@ -107,8 +107,18 @@ def timing(n):
     return c.text(c.either(low, high))
 
 
+def written(lines):
+    """A circuit written out line by line."""
+    return "".join(line + "\n" for line in lines.split("/"))
+
+
 EXAMPLES = {
     "first": first(),
+    "lone": written("aag 5 3 0 1 2/2/4/6/11/8 6 5/10 9 3"),
+    "redundant": written("aag 5 2 0 1 3/2/4/11/6 4 2/8 5 2/10 9 7"),
+    "input": written("aag 2 2 0 1 0/2/4/2"),
+    "never": written("aag 1 1 0 1 0/2/0"),
+    "always": written("aag 1 1 0 1 0/2/1"),
     "majority": majority(),
     "multiplexer": multiplexer(),
     "parity": parity(),
