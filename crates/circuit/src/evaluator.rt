@@ -9,7 +9,7 @@ use faults::TableFault;
 
 // The value, or its inverse where the literal is odd.
 fn signed<V: Value>(value: V, of: u32) -> V
-    ensures { result ≡ either ops value of }
+    ensures { result ≡ either V.ops value of }
 {
     if of % 2 == 1 { value.not() } else { value }
 }
@@ -17,7 +17,7 @@ fn signed<V: Value>(value: V, of: u32) -> V
 // The value of a literal, where `values` has each variable's.
 fn operand<V: Value>(values: &[V], of: u32) -> V
     requires { of / 2 < length values.now }
-    ensures { result ≡ literal ops values.now of }
+    ensures { result ≡ literal V.ops values.now of }
 {
     signed(values[(of / 2) as usize], of)
 }
@@ -36,7 +36,7 @@ fn fill<V: Value>(gates: &[u32], first: usize, values: &mut [V])
     requires few { length gates.now ≤ 2 * max_gates }
     requires room { first + length gates.now / 2 ≤ length values.old }
     requires below { (k : ℕ) → k < length gates.now → slice_index gates.now k < 2 * (first + k / 2) }
-    ensures { values.new ≡ grown ops gates.now (take first values.old) ++ drop (first + length gates.now / 2) values.old }
+    ensures { values.new ≡ grown V.ops gates.now (take first values.old) ++ drop (first + length gates.now / 2) values.old }
 {
     for k in 0..gates.len() / 2 {
         let left = operand(values, gates[2 * k]);
@@ -47,11 +47,11 @@ fn fill<V: Value>(gates: &[u32], first: usize, values: &mut [V])
 
 // The output's value, where the caller has filled the inputs' places. Writes place 0 and the gates' places.
 pub fn evaluate<V: Value>(circuit: &Circuit, values: &mut [V]) -> Result<V, TableFault>
-    ensures value { result ≡ evaluated ops circuit.now.inputs circuit.now.output circuit.now.gates.now values.old }
-    ensures after { values.new ≡ table_after ops circuit.now.inputs circuit.now.gates.now values.old }
-    ensures consistent { IfOk result (Consistent ops circuit.now.inputs circuit.now.output circuit.now.gates.now values.new) }
-    ensures sound { IfOk result (Sound lanes may ops circuit.now.inputs circuit.now.output circuit.now.gates.now values.old) }
-    ensures settled { IfOk result (Settles lanes may ops.falsity circuit.now.inputs values.old) }
+    ensures value { result ≡ evaluated V.ops circuit.now.inputs circuit.now.output circuit.now.gates.now values.old }
+    ensures after { values.new ≡ table_after V.ops circuit.now.inputs circuit.now.gates.now values.old }
+    ensures consistent { IfOk result (Consistent V.ops circuit.now.inputs circuit.now.output circuit.now.gates.now values.new) }
+    ensures sound { IfOk result (Sound V.lanes V.may V.ops circuit.now.inputs circuit.now.output circuit.now.gates.now values.old) }
+    ensures settled { IfOk result (Settles V.lanes V.may V.ops.falsity circuit.now.inputs values.old) }
 {
     let places = circuit.places();
     if values.len() < places {

@@ -9,5 +9,5 @@ few zero bs = omega arith
 few (suc p) [] = omega arith
 few (suc p) (b ∷ bs) = cond_both (eqb b 10) 1 0 (λ n. n + newlines (take p bs) ≤ suc (length bs)) (λ _. omega (arith, few p bs)) (λ _. omega (arith, few p bs))
 
-pub overflow-cast-result : goal.overflow-cast-result
-overflow-cast-result c = omega (arith, few c.args.place c.args.file.now, c.line-of.ensures)
+pub overflow_cast-result : goal.overflow_cast-result
+overflow_cast-result c = omega (arith, few c.args.place c.args.file.now, c.line_of.ensures)

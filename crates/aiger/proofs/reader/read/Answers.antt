@@ -7,5 +7,5 @@ pub returns : goal.returns
 returns c =
     let bs = c.args.file.now in
     let n = length c.args.table.now in
-    let v : ◌≡◌ {A = Answer} (c.clear-if-refused.new.table, c.clear-if-refused.result) (read_of bs n) = search rules in
-    record { value = v; written = exact bs n c.clear-if-refused.new.table c.clear-if-refused.result v }
+    let v : ◌≡◌ {A = Answer} (c.clear_if_refused.new.table, c.clear_if_refused.result) (read_of bs n) = search rules in
+    record { value = v; written = exact bs n c.clear_if_refused.new.table c.clear_if_refused.result v }

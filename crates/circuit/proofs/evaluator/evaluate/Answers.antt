@@ -12,7 +12,7 @@ use Rattle.circuit.proofs.evaluator.evaluate.Goals as goal
 
 pub returns : goal.returns
 returns g c =
-    let o = g.V-as-Value.ops in
+    let o = g.V.Value.ops in
     let laws = g.met.V.Value in
     let circuit = c.args.circuit.now in
     let n = circuit.inputs in
@@ -32,14 +32,14 @@ returns g c =
       consistent = consistent o n circuit.output gates (take n (drop 1 vs)) (drop (n + 1 + length gates / 2) vs) c.fill.new.values c.operand.result
           (simp (length-take, length-drop) (omega arith)) circuit.below last (c.operand.ensures ∙ ap (literal o c.fill.new.values) c.output.ensures);
       sound = λ row lane h a.
-          subst (λ v. g.V-as-Value.may v lane (solves n circuit.output gates row) ≡ true) (sym is)
-          (carried o (λ v b. g.V-as-Value.may v lane b ≡ true) (laws.nothing lane h).0 (λ u w p q. laws.joins u w lane p q h) (λ u p. laws.flips u lane p h)
+          subst (λ v. g.V.Value.may v lane (solves n circuit.output gates row) ≡ true) (sym is)
+          (carried o (λ v b. g.V.Value.may v lane b ≡ true) (laws.nothing lane h).0 (λ u w p q. laws.joins u w lane p q h) (λ u p. laws.flips u lane p h)
           n circuit.output gates vs row (omega arith) a);
       settled = λ lane h a.
-          subst (λ v. Settled (g.V-as-Value.may v lane)) (sym is)
-          (carried o (λ v _. Settled (g.V-as-Value.may v lane)) (ap₂ (λ p q. is_some (only p q)) (laws.nothing lane h).0 (laws.nothing lane h).1)
+          subst (λ v. Settled (g.V.Value.may v lane)) (sym is)
+          (carried o (λ v _. Settled (g.V.Value.may v lane)) (ap₂ (λ p q. is_some (only p q)) (laws.nothing lane h).0 (laws.nothing lane h).1)
           (λ u w p q. laws.stays u w lane h) (λ u p. laws.turns u lane h) n circuit.output gates vs 0 (omega arith)
           (λ k l.
           let at : n - 1 - k + 1 ≡ n - k = omega arith in
-          subst (λ j. Settled (g.V-as-Value.may (get_or vs j o.falsity) lane)) at (a (n - 1 - k) (omega arith))));
+          subst (λ j. Settled (g.V.Value.may (get_or vs j o.falsity) lane)) at (a (n - 1 - k) (omega arith))));
     }

@@ -7,7 +7,7 @@ use Rattle.circuit.proofs.evaluator.fill.Goals as goal
 
 pub loop-k-preserved : goal.loop-k-preserved
 loop-k-preserved g c =
-    let o = g.V-as-Value.ops in
+    let o = g.V.Value.ops in
     let k = c.loop-k.k in
     let first = c.args.first in
     let vs = c.loop-k.values in
@@ -25,7 +25,7 @@ loop-k-preserved g c =
 
 pub returns : goal.returns
 returns g c =
-    let o = g.V-as-Value.ops in
+    let o = g.V.Value.ops in
     let k = c.loop-k.k in
     let vs = c.loop-k.values in
     let gates = c.args.gates.now in

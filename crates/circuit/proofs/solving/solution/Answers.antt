@@ -21,9 +21,9 @@ returns c =
     λ k l.
     ap (λ xs. bit_allows (get_or xs (n - k) bit_ops.falsity) 0 (bit_at row k)) last
     ∙ ap (λ u. bit_allows u 0 (bit_at row k)) (laid_at f n k vs bit_ops.falsity (omega arith) l) ∙ same_true (bit_at row k) in
-    let is = same_is _ _ (c.in-ok-value.ensures.sound row 0 (omega arith) input) in
+    let is = same_is _ _ (c.in_ok-value.ensures.sound row 0 (omega arith) input) in
     record {
       value = ap Ok (c.on.ensures ∙ is) ∙ sym (cond-true _ _ _ (lt-ltb _ _ room));
-      after = c.in-ok-value.ensures.after ∙ laid_after f bit_ops n gates vs c.lay.new.values room kept last
+      after = c.in_ok-value.ensures.after ∙ laid_after f bit_ops n gates vs c.lay.new.values room kept last
           ∙ sym (cond-true _ _ _ (lt-ltb _ _ room));
     }

@@ -5,6 +5,6 @@ use Rattle.inspection.proofs.looking.smallest.Goals as goal
 
 pub returns : goal.returns
 returns g c =
-    c.smallest-row.ensures.value
+    c.smallest_row.ensures.value
     ∙ ap (λ (o : Option ℕ). cond (leb (g.D.Decider.arity c.args.decider.now) max_inputs) o None)
     (nothing_barred (g.D.Decider.arity c.args.decider.now) (g.D.Decider.rows c.args.decider.now))

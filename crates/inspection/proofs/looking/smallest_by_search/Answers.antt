@@ -8,5 +8,5 @@ returns c =
     let circuit = c.args.circuit in
     let numbers : ℕ × ℕ × List ℕ = (circuit.inputs, circuit.output, circuit.gates.now) in
     let few : circuit.inputs ≤ max_inputs = circuit.ranged.1 in
-    smallest_by_lem c.make-search.result.outcome _ numbers _ _ _ few c.make-search.ensures.outcome c.in-ok-outcome.was c.make-search.ensures.inputs
+    smallest_by_lem c.make-search.result.outcome _ numbers _ _ _ few c.make-search.ensures.outcome c.in_ok-outcome.was c.make-search.ensures.inputs
     c.make-search.ensures.rows c.smallest.ensures

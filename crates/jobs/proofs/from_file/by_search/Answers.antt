@@ -8,4 +8,4 @@ returns c =
     let numbers : ℕ × ℕ × List ℕ = (circuit.inputs, circuit.output, circuit.gates.now) in
     let went : c.make-search.result.outcome ≡ Ok tt = search rules in
     decided_text_lem c.make-search.result.outcome _ c.args.mode numbers _ _ _ _ _ c.make-search.ensures.outcome went c.make-search.ensures.inputs c.make-search.ensures.rows
-    c.print-list.ensures
+    c.print_list.ensures

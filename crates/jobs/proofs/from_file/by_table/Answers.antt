@@ -8,4 +8,4 @@ returns c =
     let numbers : ℕ × ℕ × List ℕ = (circuit.inputs, circuit.output, circuit.gates.now) in
     let went : c.make-made.result.1 ≡ Ok tt = search rules in
     decided_text_lem c.make-made.result.1 _ c.args.mode numbers _ _ _ _ _ c.make-made.ensures.answer went c.make-made.ensures.inputs c.make-made.ensures.rows
-    c.print-list.ensures
+    c.print_list.ensures

@@ -7,10 +7,10 @@ use Rattle.listing.proofs.leading.find_lead.Goals as goal
 last : (k x : ℕ) → k ≤ 0 → x / 2 ^ k ≡ x
 last k x h = let e : k ≡ 0 = omega arith in ap (λ (j : ℕ). x / 2 ^ j) e ∙ omega arith
 
-pub returns-in-default : goal.returns-in-default
-returns-in-default g c =
+pub returns-in_default : goal.returns-in_default
+returns-in_default g c =
     record {
-      lead = sym (lead_none _ _ _ (λ row f. probe_none _ _ _ _ _ (omega arith) c.in-default.ensures.answer row f (div-eq_of_lt f.below)));
+      lead = sym (lead_none _ _ _ (λ row f. probe_none _ _ _ _ _ (omega arith) c.in_default.ensures.answer row f (div-eq_of_lt f.below)));
       inputs_kept = c.probe.ensures.inputs_kept;
       rows_kept = c.probe.ensures.rows_kept;
     }
@@ -47,15 +47,15 @@ loop-k-preserved-in-Some-probe g c =
           omega arith,
     )
 
-pub loop-k-preserved-in-default-probe : goal.loop-k-preserved-in-default-probe
-loop-k-preserved-in-default-probe g c =
+pub loop-k-preserved-in_default-probe : goal.loop-k-preserved-in_default-probe
+loop-k-preserved-in_default-probe g c =
     let same = c.loop-k.invariant.1 in (
       c.probe-then-high-eq1.ensures.inputs_kept ∙ c.loop-k.invariant.0,
       c.probe-then-high-eq1.ensures.rows_kept ∙ same,
       c.loop-k.invariant.2,
       λ row f.
           let h = halved c.loop-k.best row c.loop-k.k c.loop-k-test.true (c.loop-k.invariant.3 row f) in
-          let e = probe_none _ _ _ _ _ (omega arith) c.in-default-probe.ensures.answer row (rw same f) in
+          let e = probe_none _ _ _ _ _ (omega arith) c.in_default-probe.ensures.answer row (rw same f) in
           omega arith,
     )
 

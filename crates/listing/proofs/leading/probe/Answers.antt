@@ -2,8 +2,8 @@ use Rattle.std.proofs.Common.{◌≡◌, ◌-◌, ◌*◌, ◌^◌, ◌<◌, ◌
 use Rattle.cubes.proofs.Bits.{one_shift, below_limit}
 use Rattle.listing.proofs.leading.probe.Goals as goal
 
-pub overflow-sub-care : goal.overflow-sub-care
-overflow-sub-care g c =
+pub overflow_sub-care : goal.overflow_sub-care
+overflow_sub-care g c =
     let n : c.args.n ≤ 30 = c.requires.limit in
     let k : c.args.k ≤ c.args.n = c.requires.place in
     let m : 2 ^ c.args.k ≤ 2 ^ c.args.n = pow_mono k in

@@ -18,7 +18,7 @@ returns-in-Some-ask g c =
 pub returns-in-None : goal.returns-in-None
 returns-in-None g c =
     record {
-      good = sym (good_so _ _ _ _ _ c.in-default.ensures (rw c.requires.same at c.in-None.ensures.answer));
+      good = sym (good_so _ _ _ _ _ c.in_default.ensures (rw c.requires.same at c.in-None.ensures.answer));
       inputs_kept = c.ask.ensures.inputs_kept;
       rows_kept = c.ask.ensures.rows_kept;
     }

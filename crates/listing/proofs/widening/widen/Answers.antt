@@ -14,24 +14,24 @@ loop-k-init g c =
     let s = one_shift c.args.n (omega arith) in
     (refl {a = g.D.Decider.arity c.args.decider.now}, refl {a = g.D.Decider.rows c.args.decider.now}, omega arith, (0, omega arith, refl {a = widest c.args.n (without (g.D.Decider.rows c.args.decider.now) (held c.args.shut.now)) c.args.row}))
 
-pub overflow-sub-wider : goal.overflow-sub-wider
-overflow-sub-wider g c =
+pub overflow_sub-wider : goal.overflow_sub-wider
+overflow_sub-wider g c =
     let n : c.args.n ≤ 30 = c.requires.limit in
     let i = c.loop-k.invariant.3 in
     let s = one_shift (c.loop-k.k - 1) (omega arith) in
     let r = turn_room (λ _. true) c.loop-k.k i.0 c.loop-k.care c.loop-k-test.true i.1 in
     omega arith
 
-pub loop-k-preserved-then-is-good : goal.loop-k-preserved-then-is-good
-loop-k-preserved-then-is-good g c =
+pub loop-k-preserved-then-is_good : goal.loop-k-preserved-then-is_good
+loop-k-preserved-then-is_good g c =
     let n : c.args.n ≤ 30 = c.requires.limit in
     let i = c.loop-k.invariant in
     let b = i.2 in
     let less = ap (λ (x : ℕ). c.loop-k.care - x) (one_shift (c.loop-k.k - 1) (omega arith)) in
     let t = turn_good c.args.n (g.D.Decider.rows c.args.decider.now) (g.D.Decider.rows c.loop-k.decider) c.args.shut.now c.args.row i.1
     c.loop-k.k i.3.0 c.loop-k.care _ _ _ c.loop-k-test.true i.3.1 i.2 less c.low.ensures.care c.low.ensures.value
-    c.if-is-good.ensures.good in
-    (c.is-good.ensures.inputs_kept ∙ i.0, c.is-good.ensures.rows_kept ∙ i.1, omega arith, (2 * i.3.0, t.0, t.1 ∙ i.3.2))
+    c.if-is_good.ensures.good in
+    (c.is_good.ensures.inputs_kept ∙ i.0, c.is_good.ensures.rows_kept ∙ i.1, omega arith, (2 * i.3.0, t.0, t.1 ∙ i.3.2))
 
 pub loop-k-preserved : goal.loop-k-preserved
 loop-k-preserved g c =
@@ -40,8 +40,8 @@ loop-k-preserved g c =
     let less = ap (λ (x : ℕ). c.loop-k.care - x) (one_shift (c.loop-k.k - 1) (omega arith)) in
     let t = turn_bad c.args.n (g.D.Decider.rows c.args.decider.now) (g.D.Decider.rows c.loop-k.decider) c.args.shut.now c.args.row i.1
     c.loop-k.k i.3.0 c.loop-k.care _ _ _ c.loop-k-test.true i.3.1 i.2 less c.low.ensures.care c.low.ensures.value
-    c.if-is-good.ensures.good in
-    (c.is-good.ensures.inputs_kept ∙ i.0, c.is-good.ensures.rows_kept ∙ i.1, i.2, (2 * i.3.0 + 1, t.0, t.1 ∙ i.3.2))
+    c.if-is_good.ensures.good in
+    (c.is_good.ensures.inputs_kept ∙ i.0, c.is_good.ensures.rows_kept ∙ i.1, i.2, (2 * i.3.0 + 1, t.0, t.1 ∙ i.3.2))
 
 pub returns : goal.returns
 returns g c =

@@ -5,14 +5,14 @@ use Rattle.pla.proofs.Parts.{head_parts, length_head}
 use Rattle.pla.proofs.Stored.{stored_three}
 use Rattle.pla.proofs.head.put_head.Goals as goal
 
-pub put-inputs-second-requires : goal.put-inputs-second-requires
-put-inputs-second-requires c = omega (arith, length_head c.args.n c.args.count)
+pub put_inputs-second-requires : goal.put_inputs-second-requires
+put_inputs-second-requires c = omega (arith, length_head c.args.n c.args.count)
 
 pub put-third-requires : goal.put-third-requires
 put-third-requires c = omega (arith, length_head c.args.n c.args.count)
 
-pub put-count-requires : goal.put-count-requires
-put-count-requires c = omega (arith, length_head c.args.n c.args.count)
+pub put_count-requires : goal.put_count-requires
+put_count-requires c = omega (arith, length_head c.args.n c.args.count)
 
 pub returns : goal.returns
 returns c =
@@ -20,6 +20,6 @@ returns c =
     let count = ended (codes ".p " ++ decimal c.args.count) in
     record {
       place = omega (arith, length_head c.args.n c.args.count);
-      after = stored_three c.args.text.now 0 inputs (codes ".o 1\n") count c.put-inputs-second.ensures.after (omega arith) c.put-third.ensures.after c.put-third.ensures.place c.put-count.ensures.after
+      after = stored_three c.args.text.now 0 inputs (codes ".o 1\n") count c.put_inputs-second.ensures.after (omega arith) c.put-third.ensures.after c.put-third.ensures.place c.put_count.ensures.after
           ∙ sym (ap (stored c.args.text.now 0) (head_parts c.args.n c.args.count));
     }

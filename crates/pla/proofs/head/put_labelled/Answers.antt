@@ -7,8 +7,8 @@ use Rattle.pla.proofs.head.put_labelled.Goals as goal
 pub put-first-requires : goal.put-first-requires
 put-first-requires c = omega (arith, length_labelled c.args.label.now c.args.number)
 
-pub put-number-last-requires : goal.put-number-last-requires
-put-number-last-requires c = omega (arith, length_labelled c.args.label.now c.args.number)
+pub put_number-last-requires : goal.put_number-last-requires
+put_number-last-requires c = omega (arith, length_labelled c.args.label.now c.args.number)
 
 pub put-requires : goal.put-requires
 put-requires c = omega (arith, length_labelled c.args.label.now c.args.number)
@@ -19,6 +19,6 @@ returns c =
     let digits = decimal c.args.number in
     record {
       place = omega (arith, length_labelled label c.args.number);
-      after = stored_three c.args.text.now c.args.at label digits (10 ∷ []) c.put-first.ensures.after c.put-first.ensures.place c.put-number-last.ensures.after c.put-number-last.ensures.place c.put.ensures.after
+      after = stored_three c.args.text.now c.args.at label digits (10 ∷ []) c.put-first.ensures.after c.put-first.ensures.place c.put_number-last.ensures.after c.put_number-last.ensures.place c.put.ensures.after
           ∙ sym (ap (stored c.args.text.now c.args.at) (append_assoc label digits (10 ∷ [])));
     }

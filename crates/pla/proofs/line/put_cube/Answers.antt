@@ -26,8 +26,8 @@ loop-input-preserved c =
     let written = set c.loop-input.text c.loop-input.next c.character.result in
     (omega arith, ap (λ k. stored written (c.loop-input.next + 1) (line k)) after ∙ stored_more c.loop-input.text c.loop-input.next c.character.result (line bit) ∙ ap (λ x. stored c.loop-input.text c.loop-input.next (x ∷ line bit)) here ∙ ap (λ k. stored c.loop-input.text c.loop-input.next (line k)) one ∙ c.loop-input.invariant.1)
 
-pub put-output-requires : goal.put-output-requires
-put-output-requires c = omega (arith, length_line c.args.n c.args.cube.care c.args.cube.value)
+pub put_output-requires : goal.put_output-requires
+put_output-requires c = omega (arith, length_line c.args.n c.args.cube.care c.args.cube.value)
 
 pub returns : goal.returns
 returns c =
@@ -35,5 +35,5 @@ returns c =
     let none : 0 ≡ c.args.n + 1 - c.loop-input.input = omega arith in
     record {
       place = omega (arith, length_line c.args.n c.args.cube.care c.args.cube.value);
-      after = c.put-output.ensures.after ∙ ap (λ k. stored c.loop-input.text c.loop-input.next (line k)) none ∙ c.loop-input.invariant.1;
+      after = c.put_output.ensures.after ∙ ap (λ k. stored c.loop-input.text c.loop-input.next (line k)) none ∙ c.loop-input.invariant.1;
     }

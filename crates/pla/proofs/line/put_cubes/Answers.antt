@@ -5,8 +5,8 @@ use Rattle.pla.proofs.Parts.{lines_more, length_more, lines_all}
 use Rattle.pla.proofs.Stored.{stored_append}
 use Rattle.pla.proofs.line.put_cubes.Goals as goal
 
-pub put-cube-next-requires : goal.put-cube-next-requires
-put-cube-next-requires c =
+pub put_cube-next-requires : goal.put_cube-next-requires
+put_cube-next-requires c =
     let more = length_more c.args.n c.args.cubes.now c.loop-listed.listed-index _ _ c.loop-listed-test.true c.cube.ensures.care c.cube.ensures.value in
     record { few = c.requires.few; room = omega arith }
 
@@ -18,7 +18,7 @@ loop-listed-preserved c =
     let rest = cube_lines c.args.n (drop (c.loop-listed.listed-index + 1) c.args.cubes.now) in
     let lines = lines_more c.args.n c.args.cubes.now c.loop-listed.listed-index _ _ c.loop-listed-test.true c.cube.ensures.care c.cube.ensures.value in
     let more = length_more c.args.n c.args.cubes.now c.loop-listed.listed-index _ _ c.loop-listed-test.true c.cube.ensures.care c.cube.ensures.value in
-    (omega arith, ap₂ (λ t i. stored t i rest) c.put-cube-next.ensures.after c.put-cube-next.ensures.place ∙ stored_append text next line rest ∙ sym (ap (stored text next) lines) ∙ c.loop-listed.invariant.1)
+    (omega arith, ap₂ (λ t i. stored t i rest) c.put_cube-next.ensures.after c.put_cube-next.ensures.place ∙ stored_append text next line rest ∙ sym (ap (stored text next) lines) ∙ c.loop-listed.invariant.1)
 
 pub returns : goal.returns
 returns c =

@@ -10,5 +10,5 @@ returns c =
     let size : (at + length piece) - at ≡ length piece = omega arith in
     record {
       place = refl;
-      after = ap₂ (λ k ys. put_mid at k c.args.text.now ys) size c.copy-from-slice.ensures.after ∙ stored_part c.args.text.now at piece c.requires.room;
+      after = ap₂ (λ k ys. put_mid at k c.args.text.now ys) size c.copy_from_slice.ensures.after ∙ stored_part c.args.text.now at piece c.requires.room;
     }

@@ -4,13 +4,13 @@ use Rattle.pla.specs.Text.{head}
 use Rattle.pla.proofs.Parts.{length_head_le, length_lines, length_text}
 use Rattle.pla.proofs.write.text_length.Goals as goal
 
-pub overflow-add-result : goal.overflow-add-result
-overflow-add-result c =
+pub overflow_add-result : goal.overflow_add-result
+overflow_add-result c =
     let most = mul-le c.args.count (c.args.n + 3) 4294967296 33 (omega arith) (omega arith) in
     omega (arith, length_head_le c.args.n c.args.count)
 
-pub overflow-add-result-2 : goal.overflow-add-result-2
-overflow-add-result-2 c =
+pub overflow_add-result-2 : goal.overflow_add-result-2
+overflow_add-result-2 c =
     let most = mul-le c.args.count (c.args.n + 3) 4294967296 33 (omega arith) (omega arith) in
     omega (arith, length_head_le c.args.n c.args.count)
 

@@ -18,5 +18,5 @@ returns c = λ b l.
     let care = c.args.cube.care in
     let value = c.args.cube.value in
     let high : bit_and c.args.w (care / 32) ≡ value / 32 = cc in
-    c.low-places.ensures b l
+    c.low_places.ensures b l
     ∙ sym (within_word care value c.args.w b l ∙ ap (λ t. t && eqb (bit_and b care % 32) (value % 32)) (eq-eqb _ _ high))

@@ -7,12 +7,12 @@ use Rattle.table.proofs.question.candidates.Goals as goal
 
 pub returns : goal.returns
 returns c = λ b l.
-    let kind = c.of-kind.result in
-    let used = c.used-lanes.result in
+    let kind = c.of_kind.result in
+    let used = c.used_lanes.result in
     let inside = c.mask.result in
     c.free.ensures b l
     ∙ ap (λ x. x && not (held c.args.barred.now (32 * c.args.w + b)))
     (and_bit (bit_and kind used) inside b
     ∙ ap₂ ◌&&◌
-    (and_bit kind used b ∙ ap₂ ◌&&◌ (c.of-kind.ensures b l) (c.used-lanes.ensures b l ∙ used_row c.args.n c.args.w b c.requires l))
+    (and_bit kind used b ∙ ap₂ ◌&&◌ (c.of_kind.ensures b l) (c.used_lanes.ensures b l ∙ used_row c.args.n c.args.w b c.requires l))
     (c.mask.ensures b l))

@@ -12,7 +12,7 @@ loop-w-preserved c =
 
 pub returns-then-left-ne0 : goal.returns-then-left-ne0
 returns-then-left-ne0 c =
-    lowest_fits c.args.n c.args.bits.now _ _ _ _ c.loop-w.w _ c.candidates-left.type-inv (omega arith) c.candidates-left.ensures
+    lowest_fits c.args.n c.args.bits.now _ _ _ _ c.loop-w.w _ c.candidates-left.type_inv (omega arith) c.candidates-left.ensures
 
 pub returns : goal.returns
-returns c = λ row f. c.loop-w.invariant row (omega (arith, c.end-word-w-end.ensures.past row f.below f.inside)) f
+returns c = λ row f. c.loop-w.invariant row (omega (arith, c.end_word-w-end.ensures.past row f.below f.inside)) f

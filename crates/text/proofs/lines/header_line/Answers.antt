@@ -5,10 +5,10 @@ use Rattle.text.proofs.Run.{Step}
 use Rattle.text.proofs.LineRun.{header_line_is, header_in}
 use Rattle.text.proofs.lines.header_line.Goals as goal
 
-pub returns-in-err-line : goal.returns-in-err-line
-returns-in-err-line c =
-    let p = err_from_is_err_and c.from-residual.result c.from-residual.ensures.1 in
-    p.1 ∙ ap Err p.2 ∙ ap (λ (r : Step). next r header_in) c.in-err-line.ensures ∙ header_line_is c.args.file.now
+pub returns-in_err-line : goal.returns-in_err-line
+returns-in_err-line c =
+    let p = err_from_is_err_and c.from_residual.result c.from_residual.ensures.1 in
+    p.1 ∙ ap Err p.2 ∙ ap (λ (r : Step). next r header_in) c.in_err-line.ensures ∙ header_line_is c.args.file.now
 
 pub returns : goal.returns
-returns c = ap Ok c.all.ensures ∙ ap (λ (r : Step). next r header_in) c.in-ok-line.ensures ∙ header_line_is c.args.file.now
+returns c = ap Ok c.all.ensures ∙ ap (λ (r : Step). next r header_in) c.in_ok-line.ensures ∙ header_line_is c.args.file.now

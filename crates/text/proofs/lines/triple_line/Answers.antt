@@ -5,10 +5,10 @@ use Rattle.text.proofs.Run.{Step}
 use Rattle.text.proofs.LineRun.{triple_line_is, triple_in}
 use Rattle.text.proofs.lines.triple_line.Goals as goal
 
-pub returns-in-err-line : goal.returns-in-err-line
-returns-in-err-line c =
-    let p = err_from_is_err_and c.from-residual.result c.from-residual.ensures.1 in
-    p.1 ∙ ap Err p.2 ∙ ap (λ (r : Step). next r triple_in) c.in-err-line.ensures ∙ triple_line_is c.args.file.now c.args.at
+pub returns-in_err-line : goal.returns-in_err-line
+returns-in_err-line c =
+    let p = err_from_is_err_and c.from_residual.result c.from_residual.ensures.1 in
+    p.1 ∙ ap Err p.2 ∙ ap (λ (r : Step). next r triple_in) c.in_err-line.ensures ∙ triple_line_is c.args.file.now c.args.at
 
 pub returns : goal.returns
-returns c = ap Ok c.last-three.ensures ∙ ap (λ (r : Step). next r triple_in) c.in-ok-line.ensures ∙ triple_line_is c.args.file.now c.args.at
+returns c = ap Ok c.last_three.ensures ∙ ap (λ (r : Step). next r triple_in) c.in_ok-line.ensures ∙ triple_line_is c.args.file.now c.args.at

@@ -11,22 +11,22 @@ pub loop-machine-preserved : goal.loop-machine-preserved
 loop-machine-preserved c =
     let bs = c.args.file.now in
     let m = c.loop-machine.machine in
-    let e : step_of bs m ≡ Ok c.step.new.self = split_ok m c.step.new.self _ (step_of bs m) c.in-ok-step.ensures in
+    let e : step_of bs m ≡ Ok c.step.new.self = split_ok m c.step.new.self _ (step_of bs m) c.in_ok-step.ensures in
     sym (goes bs m (sym c.loop-machine-test.ensures) ∙ ap (λ (r : Result Machine TextFault). next r (ran (length bs) bs)) e) ∙ c.loop-machine.invariant
 
 pub loop-machine-smaller : goal.loop-machine-smaller
 loop-machine-smaller c =
     let bs = c.args.file.now in
     let m = c.loop-machine.machine in
-    let e : step_of bs m ≡ Ok c.step.new.self = split_ok m c.step.new.self _ (step_of bs m) c.in-ok-step.ensures in
+    let e : step_of bs m ≡ Ok c.step.new.self = split_ok m c.step.new.self _ (step_of bs m) c.in_ok-step.ensures in
     omega (arith, forward bs m _ e, inside bs m (sym c.loop-machine-test.ensures))
 
-pub returns-in-err-step : goal.returns-in-err-step
-returns-in-err-step c =
+pub returns-in_err-step : goal.returns-in_err-step
+returns-in_err-step c =
     let bs = c.args.file.now in
     let m = c.loop-machine.machine in
-    let p = err_from_is_err_and c.from-residual.result c.from-residual.ensures.1 in
-    let e = split_err m _ _ (step_of bs m) c.in-err-step.ensures in
+    let p = err_from_is_err_and c.from_residual.result c.from_residual.ensures.1 in
+    let e = split_err m _ _ (step_of bs m) c.in_err-step.ensures in
     p.1 ∙ ap Err p.2 ∙ sym (goes bs m (sym c.loop-machine-test.ensures) ∙ ap (λ (r : Result Machine TextFault). next r (ran (length bs) bs)) e) ∙ c.loop-machine.invariant
 
 pub returns : goal.returns

@@ -9,13 +9,13 @@ began bs at end e h = goes_on bs at (omega arith)
 
 pub loop-end-preserved : goal.loop-end-preserved
 loop-end-preserved c =
-    (omega (arith, c.loop-end.invariant.0), omega (arith, c.loop-end.invariant.1, ap length (digit_more c.args.file.now c.loop-end.end c.loop-end-test.true (sym c.if-is-digit.ensures))))
+    (omega (arith, c.loop-end.invariant.0), omega (arith, c.loop-end.invariant.1, ap length (digit_more c.args.file.now c.loop-end.end c.loop-end-test.true (sym c.if-is_digit.ensures))))
 
-pub returns-else-is-digit : goal.returns-else-is-digit
-returns-else-is-digit c =
+pub returns-else-is_digit : goal.returns-else-is_digit
+returns-else-is_digit c =
     let bs = c.args.file.now in
     let v : c.loop-end.end ≡ c.args.at + length (digits (drop c.args.at bs)) =
-    omega (arith, c.loop-end.invariant.1, ap length (digit_stop bs c.loop-end.end c.loop-end-test.true (sym c.if-is-digit.ensures))) in
+    omega (arith, c.loop-end.invariant.1, ap length (digit_stop bs c.loop-end.end c.loop-end-test.true (sym c.if-is_digit.ensures))) in
     record { value = v; inside = λ h. (began bs c.args.at c.loop-end.end v h).inside; first = λ h. ap (λ (l : List ℕ). get_or l 0 0) (began bs c.args.at c.loop-end.end v h).rest }
 
 pub returns-after-loop-end : goal.returns-after-loop-end

@@ -4,8 +4,8 @@ use Rattle.text.specs.Numbers.{digits, decimal}
 use Rattle.text.proofs.Digits.{Front, goes_on}
 use Rattle.text.proofs.numbers.value_of.Goals as goal
 
-pub overflow-sub-file : goal.overflow-sub-file
-overflow-sub-file c = (goes_on c.args.file.now c.loop-i.i (omega (arith, c.loop-i.invariant.0))).low
+pub overflow_sub-file : goal.overflow_sub-file
+overflow_sub-file c = (goes_on c.args.file.now c.loop-i.i (omega (arith, c.loop-i.invariant.0))).low
 
 pub loop-i-preserved : goal.loop-i-preserved
 loop-i-preserved c =

@@ -4,23 +4,23 @@ use Rattle.listing.proofs.Nexted.{next_ends, next_full, next_lists}
 use Rattle.listing.proofs.states.Running.next.Goals as goal
 use Rattle.listing.proofs.states.Running.next.Goals.{in-Separate, in-Shared}
 
-pub returns-in-default : goal.returns-in-default
-returns-in-default g c =
+pub returns-in_default : goal.returns-in_default
+returns-in_default g c =
     record {
       next = next_ends c.args.self _ c.args.register.now _ c.held-held.result _ None c.held-held.ensures c.if-register-held.false
-          (sym c.inputs.ensures ∙ c.if-inputs-n.false) (sub-zero c.held-held.result) c.in-default.ensures.lead refl;
-      inputs_kept = c.find-lead.ensures.inputs_kept;
-      rows_kept = c.find-lead.ensures.rows_kept;
+          (sym c.inputs.ensures ∙ c.if-inputs-n.false) (sub-zero c.held-held.result) c.in_default.ensures.lead refl;
+      inputs_kept = c.find_lead.ensures.inputs_kept;
+      rows_kept = c.find_lead.ensures.rows_kept;
     }
 
-pub returns-then-not-has-room : goal.returns-then-not-has-room
-returns-then-not-has-room g c =
+pub returns-then-not-has_room : goal.returns-then-not-has_room
+returns-then-not-has_room g c =
     record {
       next = next_full c.args.self _ c.args.register.now _ c.held-held.result _ (Some c.in-Some.row) c.held-held.ensures c.if-register-held.false
           (sym c.inputs.ensures ∙ c.if-inputs-n.false) (sub-zero c.held-held.result) c.in-Some.ensures.lead
-          c.in-Some.row refl c.refused-then-not-has-room.result (sym c.if-not-has-room.ensures) c.refused-then-not-has-room.ensures;
-      inputs_kept = c.find-lead.ensures.inputs_kept;
-      rows_kept = c.find-lead.ensures.rows_kept;
+          c.in-Some.row refl c.refused-then-not-has_room.result (sym c.if-not-has_room.ensures) c.refused-then-not-has_room.ensures;
+      inputs_kept = c.find_lead.ensures.inputs_kept;
+      rows_kept = c.find_lead.ensures.rows_kept;
     }
 
 pub returns : goal.returns
@@ -28,10 +28,10 @@ returns g c =
     record {
       next = next_lists c.args.self _ c.args.register.now _ c.held-held.result _ (Some c.in-Some.row) c.held-held.ensures c.if-register-held.false
           (sym c.inputs.ensures ∙ c.if-inputs-n.false) (sub-zero c.held-held.result) c.in-Some.ensures.lead
-          c.in-Some.row refl _ _ _ _ c.longer.result c.listed.result (sym c.if-not-has-room.ensures) c.find-lead.ensures.rows_kept
+          c.in-Some.row refl _ _ _ _ c.longer.result c.listed.result (sym c.if-not-has_room.ensures) c.find_lead.ensures.rows_kept
           (sub-zero c.match-self.shut
           ∙ elim c.match-self.branch [ in-Separate w ↦ rw w.in-Separate.is (w.shut-is ∙ c.held-held.ensures) | in-Shared w ↦ rw w.in-Shared.is w.shut-is ])
           c.widen-cube.ensures.care c.widen-cube.ensures.value c.longer.ensures c.listed.ensures;
-      inputs_kept = c.widen-cube.ensures.inputs_kept ∙ c.find-lead.ensures.inputs_kept;
-      rows_kept = c.widen-cube.ensures.rows_kept ∙ c.find-lead.ensures.rows_kept;
+      inputs_kept = c.widen-cube.ensures.inputs_kept ∙ c.find_lead.ensures.inputs_kept;
+      rows_kept = c.widen-cube.ensures.rows_kept ∙ c.find_lead.ensures.rows_kept;
     }

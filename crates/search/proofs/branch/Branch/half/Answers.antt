@@ -4,14 +4,14 @@ use Rattle.search.proofs.Halves.{below_or, inside_half}
 use Rattle.search.proofs.Opens.{open_below, one_fewer}
 use Rattle.search.proofs.branch.Branch.half.Goals as goal
 
-pub invariant-of-result : goal.invariant-of-result
-invariant-of-result c =
+pub invariant_of-result : goal.invariant_of-result
+invariant_of-result c =
     let b = c.args.self in
     let lt = open_below b.inputs b.care c.args.place c.requires in (
       b.few,
       (
-        rw c.one-at-one.ensures (below_or b.care c.args.place b.inputs b.below lt),
-        (rw c.with-bit-value.ensures (inside_half c.args.bit b.value b.care c.one-at-one.result b.inside), tt),
+        rw c.one_at-one.ensures (below_or b.care c.args.place b.inputs b.below lt),
+        (rw c.with_bit-value.ensures (inside_half c.args.bit b.value b.care c.one_at-one.result b.inside), tt),
       ),
     )
 
@@ -19,10 +19,10 @@ pub returns : goal.returns
 returns c =
     let b = c.args.self in
     let lt = open_below b.inputs b.care c.args.place c.requires in
-    let fixed : bit_or b.care c.one-at-one.result ≡ bit_or b.care (2 ^ c.args.place) = ap (bit_or b.care) c.one-at-one.ensures in
+    let fixed : bit_or b.care c.one_at-one.result ≡ bit_or b.care (2 ^ c.args.place) = ap (bit_or b.care) c.one_at-one.ensures in
     record {
       inputs = refl;
       care = fixed;
-      value = c.with-bit-value.ensures ∙ ap (λ one. cond c.args.bit (bit_or b.value one) b.value) c.one-at-one.ensures;
+      value = c.with_bit-value.ensures ∙ ap (λ one. cond c.args.bit (bit_or b.value one) b.value) c.one_at-one.ensures;
       fewer = one_fewer b.inputs b.care c.args.place _ c.requires fixed (rw fixed (below_or b.care c.args.place b.inputs b.below lt));
     }

@@ -4,8 +4,8 @@ use Rattle.search.proofs.branch.Branch.of_cube.Goals as goal
 
 pub returns-then-value-care : goal.returns-then-value-care
 returns-then-value-care c =
-    cut_none c.args.inputs c.args.cube.care c.args.cube.value (rw (c.value-value.ensures, c.care.ensures, c.all-fixed.ensures) at c.if-value-care.true)
+    cut_none c.args.inputs c.args.cube.care c.args.cube.value (rw (c.value-value.ensures, c.care.ensures, c.all_fixed.ensures) at c.if-value-care.true)
 
 pub returns : goal.returns
 returns c =
-    (refl, rw (c.value-value.ensures, c.care.ensures, c.all-fixed.ensures) (cut_rows c.args.inputs c.args.cube.care c.args.cube.value))
+    (refl, rw (c.value-value.ensures, c.care.ensures, c.all_fixed.ensures) (cut_rows c.args.inputs c.args.cube.care c.args.cube.value))

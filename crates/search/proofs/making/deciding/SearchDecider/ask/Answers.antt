@@ -9,9 +9,9 @@ use Rattle.search.proofs.making.deciding.SearchDecider.ask.Goals as goal
 pub returns : goal.returns
 returns c =
     let s = c.args.self.now in
-    let b = c.in-ok-branch.branch in
-    let n : b.inputs ≡ s.circuit.inputs = c.in-ok-branch.ensures.0 ∙ c.inputs.ensures in
-    let same : SameRows s.circuit.inputs b.care b.value c.args.cube.care c.args.cube.value = rw c.inputs.ensures at c.in-ok-branch.ensures.1 in
+    let b = c.in_ok-branch.branch in
+    let n : b.inputs ≡ s.circuit.inputs = c.in_ok-branch.ensures.0 ∙ c.inputs.ensures in
+    let same : SameRows s.circuit.inputs b.care b.value c.args.cube.care c.args.cube.value = rw c.inputs.ensures at c.in_ok-branch.ensures.1 in
     record {
       answer = roomy_answer (roomy s) s.circuit.inputs (solves s.circuit.inputs s.circuit.output s.circuit.gates.now) c.args.cube.care c.args.cube.value c.args.wanted c.args.barred.now
           c.descend.result (lt-ltb _ _ (omega arith))
