@@ -7,13 +7,12 @@ use Rattle.search.proofs.branch.Branch.half.Goals as goal
 pub invariant_of-result : goal.invariant_of-result
 invariant_of-result c =
     let b = c.args.self in
-    let lt = open_below b.inputs b.care c.args.place c.requires in (
-      b.few,
-      (
-        rw c.one_at-one.ensures (below_or b.care c.args.place b.inputs b.below lt),
-        (rw c.with_bit-value.ensures (inside_half c.args.bit b.value b.care c.one_at-one.result b.inside), tt),
-      ),
-    )
+    let lt = open_below b.inputs b.care c.args.place c.requires in
+    record {
+      few = b.few;
+      below = rw c.one_at-one.ensures (below_or b.care c.args.place b.inputs b.below lt);
+      inside = rw c.with_bit-value.ensures (inside_half c.args.bit b.value b.care c.one_at-one.result b.inside);
+    }
 
 pub returns : goal.returns
 returns c =
