@@ -31,14 +31,14 @@ impl From<TextFault> for Fault {
 fn print_table(rt: HostRuntime, table: &[u32]) -> Result<(), Fault> {
     if table.len() <= 12 {
         for word in table {
-            print!(rt, " {}", word)?;
+            print!(rt; " {}", word)?;
         }
     } else {
         let mut sum: u64 = 0;
         for word in table {
             sum = (sum % 1_000_000_007 * 31 + u64::from(*word)) % 1_000_000_007;
         }
-        print!(rt, " sum {}", sum)?;
+        print!(rt; " sum {}", sum)?;
     }
     println!(rt; "")?;
     Ok(())
@@ -49,13 +49,13 @@ fn print_case(rt: HostRuntime, case: u32, file: &[u8], table: &mut [u32]) -> Res
     match read(file, table) {
         Ok(reading) => {
             print!(
-                rt,
+                rt;
                 "{} circuit {} {} {} |",
                 case, reading.inputs, reading.gates, reading.output
             )?;
         }
         Err(fault) => {
-            print!(rt, "{} {} |", case, JobFault::from(fault))?;
+            print!(rt; "{} {} |", case, JobFault::from(fault))?;
         }
     }
     print_table(rt, table)

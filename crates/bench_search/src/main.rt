@@ -31,11 +31,11 @@ fn question(
     };
     let millis = start.elapsed(rt)?.as_secs_f64() * 1000.0;
     print!(
-        rt,
+        rt;
         "inputs {inputs} wanted {wanted} barred {count}: {answer}"
     )?;
     if timed {
-        print!(rt, ", {millis:.3} ms")?;
+        print!(rt; ", {millis:.3} ms")?;
     }
     println!(rt)
 }
@@ -57,7 +57,7 @@ fn family_questions(rt: &HostRuntime, inputs: u32, timed: bool) -> io::Result<()
 fn main(rt: HostRuntime) -> io::Result<()> {
     let mut timed = false;
     for word in env::args(&rt)? {
-        if word == "time" {
+        if word.as_str() == "time" {
             timed = true;
         }
     }

@@ -7,7 +7,7 @@ use std::{env, io};
 fn main(rt: HostRuntime) -> io::Result<()> {
     let mut timed = false;
     for word in env::args(&rt)? {
-        if word == "time" {
+        if word.as_str() == "time" {
             timed = true;
         }
     }

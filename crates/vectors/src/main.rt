@@ -28,7 +28,7 @@ fn main(rt: HostRuntime) -> Result<(), Fault> {
             return Err(Fault::Frame);
         }
         for (mode, name) in [(1, "separate"), (2, "shared")] {
-            print!(rt, "{number} {name} ")?;
+            print!(rt; "{number} {name} ")?;
             print_list(&rt, &tail[0..size], mode, entries)?;
         }
         rest = &tail[size..];
