@@ -1,4 +1,6 @@
 // Asks the table and the search the same questions about one circuit, and says on how many they agree.
+#![tactic(auto)]
+
 use circuit::{Circuit, Ternary, Word};
 use cubes::{Cube, Decider, Entry};
 use search::{Made, Search};

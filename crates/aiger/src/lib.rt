@@ -1,6 +1,8 @@
 // A circuit from the bytes of an ASCII AIGER file.
 // Takes the file's bytes and a gate table, gives the circuit's numbers and two words a gate, or the first fault.
 // Promises that a file is accepted exactly when it is a written circuit within the limits, and what the table holds after.
+#![tactic(auto)]
+
 mod fault_lines;
 mod gates;
 mod header;

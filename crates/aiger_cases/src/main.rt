@@ -1,5 +1,7 @@
 // Reads many files from standard input and prints the answer to each. A line of three numbers stands before a file: the
 // case's number, the file's bytes and the gate table's words.
+#![tactic(auto)]
+
 use aiger::read;
 use faults::{JobFault, TextFault};
 use std::io;
@@ -48,8 +50,7 @@ fn print_table(rt: HostRuntime, table: &[u32]) -> Result<(), Fault> {
 fn print_case(rt: HostRuntime, case: u32, file: &[u8], table: &mut [u32]) -> Result<(), Fault> {
     match read(file, table) {
         Ok(reading) => {
-            print!(
-                rt;
+            print!(rt;
                 "{} circuit {} {} {} |",
                 case, reading.inputs, reading.gates, reading.output
             )?;

@@ -1,5 +1,7 @@
 // Asks the search decider about the timing family, over the cube of all rows.
 // Without an argument it prints which questions have an answer; with the argument `time` also how long each took.
+#![tactic(auto)]
+
 mod family;
 
 use circuit::Ternary;
@@ -30,10 +32,7 @@ fn question(
         None => "no",
     };
     let millis = start.elapsed(rt)?.as_secs_f64() * 1000.0;
-    print!(
-        rt;
-        "inputs {inputs} wanted {wanted} barred {count}: {answer}"
-    )?;
+    print!(rt; "inputs {inputs} wanted {wanted} barred {count}: {answer}")?;
     if timed {
         print!(rt; ", {millis:.3} ms")?;
     }

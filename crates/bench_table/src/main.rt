@@ -1,4 +1,6 @@
 // Prints what a small table answers; with the argument `time`, how long questions to a table of 16 inputs take.
+#![tactic(auto)]
+
 mod answers;
 mod timing;
 

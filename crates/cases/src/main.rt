@@ -1,5 +1,7 @@
 // Worked cases beside the proved ones: thirty inputs, and both sides of every limit. Prints a line a case: what came of it, and
 // whether that is what should.
+#![tactic(auto)]
+
 mod circuits;
 mod deciding;
 mod files;

@@ -1,6 +1,8 @@
 // Circuits of one output and what they evaluate to.
 // Takes the numbers of a reading and its gate table, gives a circuit within the limits, its values of every kind and its solutions.
 // Promises the value of the output and of every place of the value table, and that it allows the circuit's value on each row that the inputs allow.
+#![tactic(auto)]
+
 mod bit;
 mod counting;
 mod evaluator;

@@ -1,6 +1,8 @@
 // Cubes of rows, the register's entries, and what a decider of rows promises.
 // Takes cubes and entries of any content, gives tests of a row against them and of a cube against entries.
 // Promises each answer by the rows that are held, for every number of inputs.
+#![tactic(auto)]
+
 mod cube;
 mod decider;
 mod entry;

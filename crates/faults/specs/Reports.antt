@@ -6,7 +6,6 @@
 use Rattle.std.specs.Prelude.{ℕ, cond, nat_le}
 use Rattle.faults.specs.declared.text.TextFault.{TextFault}
 use Rattle.faults.specs.declared.text.TextFault.TheVariants.{TooLong, Misfit, BadNumber}
-use Rattle.faults.specs.declared.circuit.Located.{Located}
 use Rattle.faults.specs.declared.circuit.Rule.{Rule}
 use Rattle.faults.specs.declared.circuit.Rule.TheVariants.{InputCount, LatchCount, OutputCount, GateCount, HighestVariable, GateTable, InputLine, OutputLiteral, GateLiteral, Operand, SymbolPosition}
 use Rattle.faults.specs.declared.circuit.CircuitFault.{CircuitFault}

@@ -1,6 +1,8 @@
 // The refusals of every layer.
 // Takes a fault as the layer below met it, gives it to the layer above with what that layer adds.
 // Promises one number, layer, place and line for each fault, and the text that a program prints of it.
+#![tactic(auto)]
+
 mod circuit;
 mod job;
 mod listing;

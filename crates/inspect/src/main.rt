@@ -1,4 +1,6 @@
 // Prints a circuit's numbers, how many solutions it has and the smallest of them.
+#![tactic(auto)]
+
 use circuit::{Ternary, Word};
 use faults::JobFault;
 use inspection::{Memory, Summary, row_text};

@@ -1,5 +1,5 @@
 -- The smallest row of a decider is the smallest solution of its circuit. Assumes nothing.
-use Rattle.std.proofs.Common.{◌≡◌, ℕ, ◌≤◌, Bool, true, false, cond, ◌&&◌, leb, List, [], is_ok, None, Ok, Option, Result, sym, refl, ap, ◌∙◌, ap₂}
+use Rattle.std.proofs.Common.{◌≡◌, ℕ, ◌≤◌, Bool, true, false, cond, ◌&&◌, leb, [], is_ok, None, Ok, Option, Result, sym, refl, ap, ◌∙◌, ap₂}
 use Rattle.std.proofs.lemmas.Bool.{le-leb}
 use Rattle.faults.specs.declared.table.TableFault.{TableFault}
 use Rattle.circuit.specs.Solutions.{solves}

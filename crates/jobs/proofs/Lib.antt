@@ -4,3 +4,4 @@ mod RunStories
 mod Prints
 mod Circuits
 mod Tellings
+mod Compare

@@ -1,5 +1,5 @@
 -- A run that finishes goes on with the story of its listing, over the whole register. Assumes nothing.
-use Rattle.std.proofs.Common.{◌≡◌, ℕ, zero, suc, Bool, true, false, List, [], ◌∷◌, ◌++◌, length, get_or, take, drop, is_ok, Ok, Err, Result, sym, refl, ap, ◌∙◌, subst, subst₂, append-nil}
+use Rattle.std.proofs.Common.{◌≡◌, ℕ, zero, suc, Bool, List, [], ◌∷◌, ◌++◌, length, get_or, take, drop, is_ok, Ok, Err, Result, sym, refl, ap, ◌∙◌, subst, subst₂, append-nil}
 use lib.Seq.{take-length, drop-length}
 use borrow.Author.Tests.{clash}
 use Rattle.faults.specs.declared.listing.ListingFault.{ListingFault}

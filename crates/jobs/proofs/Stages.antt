@@ -1,6 +1,6 @@
 -- A job stage by stage: with the circuit that was read and the decider that was made it goes on. Assumes nothing.
-use Rattle.std.proofs.Common.{◌≡◌, ℕ, ◌<◌, ◌≤◌, Bool, cond, ◌&&◌, List, is_ok, Ok, Result, sym, refl, ap, ◌∙◌, ap₂}
-use Rattle.std.proofs.lemmas.Bool.{le-leb, lt-leb}
+use Rattle.std.proofs.Common.{◌≡◌, ℕ, ◌<◌, ◌≤◌, Bool, false, cond, not, ◌&&◌, leb, List, is_ok, Ok, Result, sym, ap, ◌∙◌, ap₂}
+use Rattle.std.proofs.lemmas.Bool.{both_ways, le-leb, lt-leb}
 use Rattle.faults.specs.declared.table.TableFault.{TableFault}
 use Rattle.circuit.specs.declared.reading.Reading.{Reading}
 use Rattle.circuit.specs.Circuits.{taken_up}
@@ -10,37 +10,76 @@ use Rattle.aiger.specs.Reads.{Answer, read_of}
 use Rattle.table.specs.Tables.{table_answer}
 use Rattle.search.specs.Searches.{made_of}
 use Rattle.cubes.specs.declared.entry.Entry.{Entry}
-use Rattle.jobs.specs.Lists.{Outcome, Room, go_on, at_reading, rows_text, decided_text, circuit_text, list_of}
+use Rattle.jobs.specs.Afterwards.{after, after_reading, rows_register, decided_register}
+use Rattle.jobs.specs.Lists.{Outcome, Room, go_on, at_reading, rows_text, decided_text, making_of, circuit_text, list_of}
 
--- by a decider that has the circuit's inputs and solutions where its making went well
-pub decided_text_lem : (answer made : Result (Unit {0}) TableFault) (mode : ℕ) (c : ℕ × ℕ × List ℕ) (register : List Entry) (text : List ℕ) (n : ℕ) (rows : ℕ → Bool) (o : Outcome)
-    → answer ≡ made → answer ≡ Ok tt
-    → n ≡ cond (is_ok answer) c.0 0 → rows ≡ (λ row. is_ok answer && solves c.0 c.1 c.2 row)
-    → o ≡ rows_text mode n rows register text → o ≡ decided_text made mode c register text
-decided_text_lem answer made mode c register text n rows o same went inputs sets e =
+-- a decider has the circuit's inputs and solutions where its making went well
+pub decided : {X : Type 0} (f : ℕ → (ℕ → Bool) → X) (answer : Result (Unit {0}) TableFault) (c : ℕ × ℕ × List ℕ) (n : ℕ) (rows : ℕ → Bool)
+    → answer ≡ Ok tt → n ≡ cond (is_ok answer) c.0 0 → rows ≡ (λ row. is_ok answer && solves c.0 c.1 c.2 row)
+    → f n rows ≡ f c.0 (solves c.0 c.1 c.2)
+decided f answer c n rows went inputs sets =
     let set : Result (Unit {0}) TableFault → ℕ → Bool = λ m row. is_ok m && solves c.0 c.1 c.2 row in
-    e ∙ ap₂ (λ (k : ℕ) (S : ℕ → Bool). rows_text mode k S register text)
-    (inputs ∙ ap (λ (m : Result (Unit {0}) TableFault). cond (is_ok m) c.0 0) went)
-    (sets ∙ ap set went)
-    ∙ ap (λ (m : Result (Unit {0}) TableFault). decided_text m mode c register text) (sym went ∙ same)
+    ap₂ f (inputs ∙ ap (λ (m : Result (Unit {0}) TableFault). cond (is_ok m) c.0 0) went) (sets ∙ ap set went)
+
+module _ (answer made : Result (Unit {0}) TableFault) (mode : ℕ) (c : ℕ × ℕ × List ℕ) (register : List Entry) (n : ℕ) (rows : ℕ → Bool)
+    (same : answer ≡ made) (went : answer ≡ Ok tt) (inputs : n ≡ cond (is_ok answer) c.0 0) (sets : rows ≡ (λ row. is_ok answer && solves c.0 c.1 c.2 row)) where
+  pub decided_text_lem : (text : List ℕ) (o : Outcome) → o ≡ rows_text mode n rows register text → o ≡ decided_text made mode c register text
+  decided_text_lem text o e =
+      e ∙ decided (λ k S. rows_text mode k S register text) answer c n rows went inputs sets
+      ∙ ap (λ (m : Result (Unit {0}) TableFault). decided_text m mode c register text) (sym went ∙ same)
+
+  pub decided_register_lem : (register' : List Entry) → register' ≡ rows_register mode n rows register → register' ≡ decided_register made mode c register
+  decided_register_lem register' e =
+      e ∙ decided (λ k S. rows_register mode k S register) answer c n rows went inputs sets
+      ∙ ap (λ (m : Result (Unit {0}) TableFault). decided_register m mode c register) (sym went ∙ same)
 
 -- ---- the decider is chosen by the number of inputs
 
-module _ (room : Room) (mode : ℕ) (c : ℕ × ℕ × List ℕ) (register : List Entry) (text : List ℕ) where
-  pub few_text : c.0 ≤ max_table_inputs
-      → decided_text (table_answer c.0 c.2 room.bits room.words) mode c register text ≡ circuit_text room mode c register text
-  few_text few =
-      ap (λ (b : Bool). decided_text (cond b (table_answer c.0 c.2 room.bits room.words) (made_of c.0 c.2 room.signals)) mode c register text)
-      (sym (le-leb c.0 max_table_inputs few))
+module _ (room : Room) (c : ℕ × ℕ × List ℕ) where
+  abbrev chosen : Bool → Result (Unit {0}) TableFault
+  chosen few = cond few (table_answer c.0 c.2 room.bits room.words) (made_of c.0 c.2 room.signals)
 
-  pub many_text : max_table_inputs < c.0 → decided_text (made_of c.0 c.2 room.signals) mode c register text ≡ circuit_text room mode c register text
-  many_text many =
-      ap (λ (b : Bool). decided_text (cond b (table_answer c.0 c.2 room.bits room.words) (made_of c.0 c.2 room.signals)) mode c register text)
-      (sym (lt-leb c.0 max_table_inputs many))
+  pub few_making : c.0 ≤ max_table_inputs → table_answer c.0 c.2 room.bits room.words ≡ making_of room c
+  few_making few = ap chosen (sym (le-leb c.0 max_table_inputs few))
 
-  -- and the circuit is the file's
-  pub file_text : (file table : List ℕ) (r : Reading) (o : Outcome) → (table, Ok r) ≡ read_of file room.gate_table → c ≡ taken_up r table
-      → o ≡ circuit_text room mode c register text → o ≡ list_of file mode room register text
-  file_text file table r o reads taken e =
+  pub many_making : max_table_inputs < c.0 → made_of c.0 c.2 room.signals ≡ making_of room c
+  many_making many = ap chosen (sym (lt-leb c.0 max_table_inputs many))
+
+-- ---- and the circuit is the file's
+
+module _ (room : Room) (c : ℕ × ℕ × List ℕ) (file table : List ℕ) (r : Reading) (reads : (table, Ok r) ≡ read_of file room.gate_table) (taken : c ≡ taken_up r table) where
+  pub file_text : (mode : ℕ) (register : List Entry) (text : List ℕ) (o : Outcome) → o ≡ circuit_text room mode c register text → o ≡ list_of file mode room register text
+  file_text mode register text o e =
       e ∙ ap (λ (d : ℕ × ℕ × List ℕ). circuit_text room mode d register text) taken
       ∙ ap (λ (a : Answer). go_on at_reading text a.1 (λ q. circuit_text room mode (taken_up q a.0) register text)) reads
+
+  pub file_after : {X : Type 0} (was : X) (more : (ℕ × ℕ × List ℕ) → X) → more c ≡ after_reading was file room more
+  file_after {X} was more = ap more taken ∙ ap (λ (a : Answer). after was a.1 (λ q. more (taken_up q a.0))) reads
+
+-- ---- what is lent to a decider that is not made stays as it was
+
+-- the bits, words and signals before, and after, a stage
+pub record Lent {X Y Z : Type 0} (room : Room) (c : ℕ × ℕ × List ℕ) (before after : X × Y × Z) : Type 0 where
+  pub bits : leb c.0 max_table_inputs ≡ false → after.0 ≡ before.0
+  pub words : is_ok (table_answer c.0 c.2 room.bits room.words) ≡ false → after.1 ≡ before.1
+  pub signals : not (leb c.0 max_table_inputs) ≡ false → after.2 ≡ before.2
+
+module _ {X Y Z : Type 0} (room : Room) (c : ℕ × ℕ × List ℕ) (before after : X × Y × Z) where
+  pub few_lent : c.0 ≤ max_table_inputs → (is_ok (table_answer c.0 c.2 room.bits room.words) ≡ false → after.1 ≡ before.1) → after.2 ≡ before.2
+      → Lent room c before after
+  few_lent few words signals =
+      let yes = le-leb c.0 max_table_inputs few in
+      record {
+        bits = λ no. absurd (both_ways (leb c.0 max_table_inputs) no yes);
+        words = words;
+        signals = λ _. signals;
+      }
+
+  pub many_lent : max_table_inputs < c.0 → after.0 ≡ before.0 → after.1 ≡ before.1 → Lent room c before after
+  many_lent many bits words =
+      let no = lt-leb c.0 max_table_inputs many in
+      record {
+        bits = λ _. bits;
+        words = λ _. words;
+        signals = λ yes. absurd (both_ways (not (leb c.0 max_table_inputs)) yes (ap not no));
+      }

@@ -1,5 +1,5 @@
 -- A job that gives a text has told the list of the file's circuit. Assumes nothing.
-use Rattle.std.proofs.Common.{◌≡◌, ℕ, ◌+◌, ◌^◌, ◌<◌, ◌≤◌, Bool, true, false, not, List, [], map, length, take, drop, is_ok, IfOk, Some, None, Ok, Err, Option, Result, sym, refl, ap, ◌∙◌, subst, ap₂, zero-add}
+use Rattle.std.proofs.Common.{◌≡◌, ℕ, ◌^◌, ◌<◌, ◌≤◌, Bool, true, not, List, [], map, length, take, drop, is_ok, IfOk, Some, None, Ok, Err, Option, Result, sym, refl, ap, ◌∙◌, subst, ap₂, zero-add}
 use borrow.Author.Tests.{clash}
 use Rattle.std.proofs.lemmas.Bool.{and_parts, and_from}
 use Rattle.faults.specs.declared.job.Fault.{Fault}
@@ -18,8 +18,8 @@ use Rattle.listing.specs.declared.mode.Mode.TheVariants.{Separate}
 use Rattle.listing.specs.declared.states.Draft.{Draft}
 use Rattle.listing.specs.declared.states.Finished.{Finished}
 use Rattle.listing.specs.Calls.{mode_of, arity_of, drafted, opened, begun, cubes_in, listed_of}
-use Rattle.listing.specs.Stories.{Story, running, finished, opens, begins}
-use Rattle.listing.specs.Theorem.{in_some, unwaived, Holds}
+use Rattle.listing.specs.Stories.{Story, finished, opens, begins}
+use Rattle.listing.specs.Theorem.{in_some, Holds}
 use Rattle.listing.proofs.Counts.{bool_same}
 use Rattle.listing.proofs.Goodness.{holds_parts}
 use Rattle.listing.proofs.Lists.{some_at, some_by}

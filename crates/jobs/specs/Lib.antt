@@ -1,2 +1,3 @@
 pub mod Lists
 pub mod Told
+pub mod Afterwards

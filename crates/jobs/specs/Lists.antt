@@ -5,7 +5,7 @@
 --   room      how many words or places each part of the work memory has
 --   run       next again and again: the finished listing or the refusal, and the register afterwards
 -- Assumes nothing.
-use Rattle.std.specs.Prelude.{ℕ, zero, suc, ◌+◌, Bool, cond, List, Ok, Err, Result, nat_le}
+use Rattle.std.specs.Prelude.{ℕ, zero, suc, ◌+◌, Bool, cond, List, length, Ok, Err, Result, nat_le}
 use Rattle.faults.specs.declared.circuit.CircuitFault.{CircuitFault}
 use Rattle.faults.specs.declared.job.Fault.{Fault}
 use Rattle.faults.specs.declared.job.Fault.TheVariants.{Circuit, Table, Listing}
@@ -21,7 +21,6 @@ use Rattle.aiger.specs.Reads.{read_of}
 use Rattle.cubes.specs.declared.entry.Entry.{Entry}
 use Rattle.table.specs.Tables.{table_answer}
 use Rattle.search.specs.Searches.{made_of}
-use Rattle.listing.specs.declared.states.Draft.{Draft}
 use Rattle.listing.specs.declared.states.Running.{Running}
 use Rattle.listing.specs.declared.states.Finished.{Finished}
 use Rattle.listing.specs.declared.states.Step.{Step}
@@ -30,6 +29,7 @@ use Rattle.listing.specs.declared.states.Refusal.{Refusal}
 use Rattle.listing.specs.Limits.{max_entries}
 use Rattle.listing.specs.Calls.{opened, begun, entries, nexted}
 use Rattle.pla.specs.Printed.{printed}
+use Rattle.jobs.specs.declared.memory.Memory.{Memory}
 
 abbrev pub Outcome : Type 0
 Outcome = Result ℕ JobFault × List ℕ
@@ -39,6 +39,10 @@ pub record Room : Type 0 where
   pub bits : ℕ
   pub words : ℕ
   pub signals : ℕ
+
+-- that a lent memory gives
+abbrev pub room_of : Memory → Room
+room_of m = record { gate_table = length m.gate_table.now; bits = length m.bits.now; words = length m.words.now; signals = length m.signals.now }
 
 -- the job goes on with what a step gave; where the step refuses, the text memory stays as it was
 abbrev pub go_on : {A E : Type 0} → (E → JobFault) → List ℕ → Result A E → (A → Outcome) → Outcome

@@ -1,9 +1,9 @@
--- What the printed text tells: the finished list of the file's circuit, by its story.
+-- What the printed text tells: the finished list of the file's circuit, by its story; and what two texts of one mode tell together.
 --   n and S      the circuit's number of inputs and its solutions
 --   story        the calls that led to the finished listing; it has no waivers
 --   in a cube    a row that the cube holds
 -- Assumes nothing.
-use Rattle.std.specs.Prelude.{◌≡◌, ℕ, ◌^◌, ◌<◌, Bool, List, [], map, Some}
+use Rattle.std.specs.Prelude.{◌≡◌, ℕ, ◌^◌, ◌<◌, Bool, ◌↔◌, List, [], map, Some}
 use Rattle.circuit.specs.declared.reading.Reading.{Reading}
 use Rattle.circuit.specs.Solutions.{solves}
 use Rattle.aiger.specs.Grammar.{Written, gate_words}
@@ -39,3 +39,18 @@ pub record Told (file : List ℕ) (words mode : ℕ) (text : List ℕ) : Type 0 
   pub gates : List (ℕ × ℕ)
   pub circuit : Written file words reading gates
   pub list : TellsCircuit (reading.inputs, reading.output, gate_words gates) mode text
+
+-- ---- two texts of one mode
+
+abbrev pub told_circuit : {file : List ℕ} {words mode : ℕ} {text : List ℕ} → Told file words mode text → (ℕ × ℕ × List ℕ)
+told_circuit t = (t.reading.inputs, t.reading.output, gate_words t.gates)
+
+-- as many inputs, and the same solutions
+abbrev pub SameSolutions : (ℕ × ℕ × List ℕ) → (ℕ × ℕ × List ℕ) → Type 0
+SameSolutions c c' = (c.0 ≡ c'.0) × ((row : ℕ) → row < 2 ^ c.0 → solves c.0 c.1 c.2 row ≡ solves c'.0 c'.1 c'.2 row)
+
+-- they are equal exactly when the circuits have the same solutions, however the two files are written and long their gate tables
+abbrev pub TextsCompare : Type 0
+TextsCompare =
+    (file file' : List ℕ) (words words' mode : ℕ) (text text' : List ℕ) (t : Told file words mode text) (t' : Told file' words' mode text')
+    → (text ≡ text') ↔ SameSolutions (told_circuit t) (told_circuit t')

@@ -1,9 +1,10 @@
 // From the bytes of a file to the text of its list.
-ghost use Rattle.std.specs.Prelude.{◌≡◌, ◌≤◌, length, take, IfOk};
+ghost use Rattle.std.specs.Prelude.{◌≡◌, ◌≤◌, false, length, take, is_ok, IfOk};
 ghost use Rattle.table.specs.Tables.{table_answer};
 ghost use Rattle.search.specs.Searches.{made_of};
-ghost use Rattle.jobs.specs.Lists.{decided_text, list_of};
-ghost use Rattle.jobs.specs.Told.{Told};
+ghost use Rattle.jobs.specs.Afterwards.{decided_register, gates_after, register_after, search_asked, table_asked, table_made};
+ghost use Rattle.jobs.specs.Lists.{decided_text, list_of, room_of};
+ghost use Rattle.jobs.specs.Told.{TextsCompare, Told};
 
 use crate::Memory;
 use crate::printing::print_list;
@@ -22,7 +23,9 @@ fn by_table(
     register: &mut [Entry],
     text: &mut [u8],
 ) -> Result<usize, JobFault>
-    ensures { (result, text.new) ≡ decided_text (table_answer circuit.now.inputs circuit.now.gates.now (length bits.old) (length words.old)) mode (circuit.now.inputs, circuit.now.output, circuit.now.gates.now) register.old text.old }
+    ensures value { (result, text.new) ≡ decided_text (table_answer circuit.now.inputs circuit.now.gates.now (length bits.old) (length words.old)) mode (circuit.now.inputs, circuit.now.output, circuit.now.gates.now) register.old text.old }
+    ensures register { register.new ≡ decided_register (table_answer circuit.now.inputs circuit.now.gates.now (length bits.old) (length words.old)) mode (circuit.now.inputs, circuit.now.output, circuit.now.gates.now) register.old }
+    ensures words { is_ok (table_answer circuit.now.inputs circuit.now.gates.now (length bits.old) (length words.old)) ≡ false → words.new ≡ words.old }
 {
     let (mut table, made) = Table::make(circuit, bits, words);
     made?;
@@ -37,7 +40,8 @@ fn by_search(
     register: &mut [Entry],
     text: &mut [u8],
 ) -> Result<usize, JobFault>
-    ensures { (result, text.new) ≡ decided_text (made_of circuit.entry.inputs circuit.entry.gates.now (length signals.old)) mode (circuit.entry.inputs, circuit.entry.output, circuit.entry.gates.now) register.old text.old }
+    ensures value { (result, text.new) ≡ decided_text (made_of circuit.entry.inputs circuit.entry.gates.now (length signals.old)) mode (circuit.entry.inputs, circuit.entry.output, circuit.entry.gates.now) register.old text.old }
+    ensures register { register.new ≡ decided_register (made_of circuit.entry.inputs circuit.entry.gates.now (length signals.old)) mode (circuit.entry.inputs, circuit.entry.output, circuit.entry.gates.now) register.old }
 {
     let Made {
         mut search,
@@ -48,13 +52,22 @@ fn by_search(
 }
 
 // Lists the solutions of the file's circuit, and writes the text of the list: mode 1 is of separate cubes, mode 2 of
-// shared rows. Gives the length of the text. A refusal leaves the text memory as it was; what the work memory holds
-// afterwards is free.
+// shared rows. Gives the length of the text. A refusal leaves the text memory as it was. Afterwards the gate table holds
+// what was read, and the register what was listed. Left open is only the memory of the decider that is asked for: the
+// bits of a table, its words once it is made, the signals of a search. The clauses name the fields of the memory at the
+// return by place: .0 is the gate table, .1 what comes after it, and so on.
 pub fn list(file: &[u8], mode: u32, memory: Memory, text: &mut [u8]) -> Result<usize, JobFault>
     ensures value { (result, text.new) ≡ list_of file.now mode (record { gate_table = length memory.entry.gate_table.now; bits = length memory.entry.bits.now; words = length memory.entry.words.now; signals = length memory.entry.signals.now }) memory.entry.register.now text.old }
     ensures fits { IfOk result (λ size. size ≤ length text.new) }
     ensures told { IfOk result (λ size. Told file.now (length memory.entry.gate_table.now) mode (take size text.new)) }
+    ensures compared { TextsCompare }
+    ensures gates { memory.exit.0.now ≡ gates_after file.now (room_of memory.entry) }
+    ensures bits { table_asked file.now (room_of memory.entry) ≡ false → memory.exit.1.0.now ≡ memory.entry.bits.now }
+    ensures words { table_made file.now (room_of memory.entry) ≡ false → memory.exit.1.1.0.now ≡ memory.entry.words.now }
+    ensures signals { search_asked file.now (room_of memory.entry) ≡ false → memory.exit.1.1.1.0.now ≡ memory.entry.signals.now }
+    ensures register { memory.exit.1.1.1.1.0.now ≡ register_after file.now mode (room_of memory.entry) memory.entry.register.now }
 {
+    laws();
     let Memory {
         gate_table,
         bits,
@@ -70,3 +83,8 @@ pub fn list(file: &[u8], mode: u32, memory: Memory, text: &mut [u8]) -> Result<u
         by_search(circuit, mode, signals, register, text)
     }
 }
+
+// The law of two texts, which stands on the contract of `list`.
+fn laws()
+    ensures { TextsCompare }
+{}

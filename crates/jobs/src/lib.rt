@@ -1,6 +1,9 @@
 // Whole jobs: from the bytes of a file to what a program prints.
 // Takes a file, a mode and lent memory, gives the text of the file's list, or the first refusal with its stage.
-// Promises the answer and the text memory for every file, and that the text is that of a finished listing.
+// Promises the answer and the memory afterwards for every file, that the text is that of a finished listing, and that two
+// texts of one mode are equal exactly when the circuits have as many inputs and the same solutions.
+#![tactic(auto)]
+
 mod finishing;
 mod from_file;
 mod memory;

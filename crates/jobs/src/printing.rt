@@ -1,5 +1,6 @@
 // Listing and printing the rows of a decider.
 ghost use Rattle.std.specs.Prelude.{◌≡◌};
+ghost use Rattle.jobs.specs.Afterwards.{rows_register};
 ghost use Rattle.jobs.specs.Lists.{rows_text};
 
 use crate::finishing::finish;
@@ -14,7 +15,8 @@ pub fn print_list<D: Decider>(
     register: &mut [Entry],
     text: &mut [u8],
 ) -> Result<usize, JobFault>
-    ensures { (result, text.new) ≡ rows_text mode (D.Decider.arity decider.old) (D.Decider.rows decider.old) register.old text.old }
+    ensures value { (result, text.new) ≡ rows_text mode (D.Decider.arity decider.old) (D.Decider.rows decider.old) register.old text.old }
+    ensures register { register.new ≡ rows_register mode (D.Decider.arity decider.old) (D.Decider.rows decider.old) register.old }
 {
     let draft = Draft::open(mode, decider.inputs())?;
     let finished = finish(draft.begin(), register, decider)?;

@@ -6,7 +6,6 @@ use Rattle.listing.specs.declared.mode.Mode.{Mode}
 use Rattle.listing.specs.declared.mode.Mode.TheVariants.{Separate}
 use Rattle.listing.specs.declared.states.Draft.{Draft}
 use Rattle.listing.specs.Widest.{without, lead}
-use Rattle.listing.specs.Stories.{finished}
 use Rattle.listing.specs.Theorem.{in_some, unwaived, Holds, Forbidden, Tight}
 use Rattle.listing.proofs.Least.{least_none}
 use Rattle.listing.proofs.Lists.{some_at, some_by}

@@ -1,5 +1,5 @@
 -- Two finished chains are equal exactly when the same solutions were left unwaived.
-use Rattle.std.proofs.Common.{◌≡◌, ℕ, ◌^◌, ◌<◌, Bool, true, not, ◌↔◌, List, None, sym, subst, subst₂}
+use Rattle.std.proofs.Common.{◌≡◌, ℕ, ◌^◌, ◌<◌, Bool, true, ◌↔◌, List, None, sym, subst, subst₂}
 use Rattle.cubes.specs.declared.cube.Cube.{Cube}
 use Rattle.listing.specs.declared.mode.Mode.{Mode}
 use Rattle.listing.specs.Widest.{without, lead}

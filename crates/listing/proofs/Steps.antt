@@ -15,7 +15,7 @@ use Rattle.listing.specs.declared.states.Refusal.{Refusal}
 use Rattle.listing.specs.Widest.{without, lead, widest}
 use Rattle.listing.specs.Limits.{max_entries}
 use Rattle.listing.specs.Calls.{mode_of, arity_of, drafted, room, well_formed, waiver_of, one_waiver, waived, entries, waivers_in, cubes_in, allowed, entry_around, led, nexted}
-use Rattle.listing.specs.Stories.{Listing, draft, cube_of, Means, Story, opens, waives, waives_not, begins, lists, ends, nexts_not, reopens, reopens_finished}
+use Rattle.listing.specs.Stories.{Listing, cube_of, Means, Story, opens, waives, waives_not, begins, lists, ends, nexts_not, reopens, reopens_finished}
 use Rattle.listing.specs.Theorem.{in_some, unwaived}
 use Rattle.listing.proofs.Least.{least_cong}
 use Rattle.listing.proofs.Goodness.{widest_cong}

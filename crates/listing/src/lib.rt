@@ -1,6 +1,8 @@
 // Listings of a decider's rows as cubes, over a lent register.
 // Takes a mode, a number of inputs, cubes to waive and any decider; gives the next cube, or the finished listing.
 // Promises every call by a defined value, and the stories of these calls by one theorem.
+#![tactic(auto)]
+
 mod arity;
 mod draft;
 mod finished;

@@ -1,5 +1,5 @@
 -- What a branch gives the inputs allows each of its rows, and is settled where it is one row; so is what the output gives.
-use Rattle.std.proofs.Common.{◌≡◌, ℕ, zero, suc, ◌-◌, ◌/◌, ◌%◌, ◌^◌, ◌<◌, Bool, true, false, cond, not, eqb, is_some, Option, sym, refl, ap, ◌∙◌, arith, eqb-true}
+use Rattle.std.proofs.Common.{◌≡◌, ℕ, zero, suc, ◌/◌, ◌%◌, ◌^◌, ◌<◌, Bool, true, false, cond, not, eqb, is_some, Option, sym, refl, ap, ◌∙◌, arith, eqb-true}
 use lib.Bits.{bit_and}
 use borrow.Author.Tests.{clash}
 use Rattle.circuit.specs.declared.ternary.Ternary.{Ternary}

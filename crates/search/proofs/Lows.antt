@@ -5,7 +5,7 @@ use borrow.Author.Tests.{clash}
 use Rattle.circuit.specs.Limits.{max_inputs}
 use Rattle.cubes.specs.declared.entry.Entry.{Entry}
 use Rattle.cubes.specs.Cubes.{care_of}
-use Rattle.cubes.specs.Deciders.{Fitting, Answer}
+use Rattle.cubes.specs.Deciders.{Answer}
 use Rattle.cubes.proofs.Bits.{and_assoc, and_low, below_limit}
 use Rattle.search.specs.Branches.{Each, SameRows}
 

@@ -1,4 +1,6 @@
 // Prints the list of a circuit's solutions as cubes that may share rows.
+#![tactic(auto)]
+
 use shell::{Failure, run};
 
 const SHARED: u32 = 2;

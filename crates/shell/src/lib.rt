@@ -1,6 +1,8 @@
 // What the programs share: a file from standard input, an answer to standard output.
 // Takes the runtime and, for a list, its mode; gives success or why the program fails.
 // Promises that the text it prints is the one that the job told; no contract speaks of what is read and printed.
+#![tactic(auto)]
+
 mod failure;
 mod input;
 mod job;

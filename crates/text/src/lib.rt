@@ -1,6 +1,8 @@
 // The bytes of a file: their classes, numbers, lines of numbers, and the line of a place.
 // Takes the file's bytes and a place, gives what stands there and the place after it.
 // Promises the value or the text fault and its place, by one definition for each, for every list of bytes.
+#![tactic(auto)]
+
 mod classes;
 mod lines;
 mod machine;

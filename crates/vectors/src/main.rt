@@ -1,5 +1,7 @@
 // Reads many files from standard input, and prints a line for each and each mode: the text of its list, or the refusal. A line
 // of three numbers stands before a file: the case's number, the file's bytes and the register's entries.
+#![tactic(auto)]
+
 mod fault;
 mod framing;
 mod job;

@@ -1,6 +1,8 @@
 // Worked cases of the whole way, from a file's bytes to the listed cubes and their total.
 // Takes nothing, and gives the number of the cases.
 // Promises that each case comes out as the specification writes it.
+#![tactic(auto)]
+
 ghost use Rattle.std.specs.Prelude.{◌≡◌};
 ghost use Rattle.worked.specs.Worked.{WorkedCases, case_count};
 

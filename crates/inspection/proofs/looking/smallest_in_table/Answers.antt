@@ -1,4 +1,4 @@
-use Rattle.std.proofs.Common.{ℕ, ◌≤◌, List, arith}
+use Rattle.std.proofs.Common.{ℕ, ◌≤◌, List}
 use Rattle.listing.specs.Limits.{max_inputs}
 use Rattle.inspection.proofs.Smallest.{smallest_by_lem}
 use Rattle.inspection.proofs.looking.smallest_in_table.Goals as goal

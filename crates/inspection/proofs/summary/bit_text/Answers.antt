@@ -1,4 +1,4 @@
-use Rattle.std.proofs.Common.{◌≡◌, ℕ, ◌%◌, ◌^◌, ◌<◌, cond, eqb, sym, ap, arith, lit≤}
+use Rattle.std.proofs.Common.{ℕ, ◌%◌, ◌^◌, ◌<◌, cond, eqb, sym, ap, arith, lit≤}
 use Rattle.inspection.proofs.Rows.{no_bit}
 use Rattle.inspection.proofs.summary.bit_text.Goals as goal
 

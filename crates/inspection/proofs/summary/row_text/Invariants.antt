@@ -1,4 +1,4 @@
-use Rattle.std.proofs.Common.{◌≡◌, ◌-◌, ◌++◌, string_bytes}
+use Rattle.std.proofs.Common.{◌≡◌, ◌++◌, string_bytes}
 use Rattle.inspection.specs.Rows.{row_text}
 use Rattle.inspection.proofs.summary.row_text.Given as goal
 

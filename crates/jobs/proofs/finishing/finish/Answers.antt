@@ -1,9 +1,7 @@
-use Rattle.std.proofs.Common.{◌≡◌, ℕ, ◌+◌, ◌<◌, List, Ok, Err, Result, sym, refl, ap, ◌∙◌, arith}
-use Rattle.cubes.specs.declared.entry.Entry.{Entry}
+use Rattle.std.proofs.Common.{◌≡◌, ◌+◌, Ok, sym, refl, ap, ◌∙◌, arith}
 use Rattle.listing.specs.declared.states.Running.{Running}
 use Rattle.listing.specs.declared.states.Step.{Step}
-use Rattle.listing.specs.declared.states.Step.TheVariants.{Listed, Ended}
-use Rattle.listing.specs.declared.states.Refusal.{Refusal}
+use Rattle.listing.specs.declared.states.Step.TheVariants.{Listed}
 use Rattle.listing.specs.Calls.{nexted}
 use Rattle.jobs.proofs.Runs.{asked, lists_more, rest_all, rest_ends, rest_refuses, rest_lists}
 use Rattle.jobs.proofs.finishing.finish.Given as given

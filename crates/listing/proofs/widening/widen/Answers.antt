@@ -1,4 +1,4 @@
-use Rattle.std.proofs.Common.{◌≡◌, ℕ, ◌+◌, ◌-◌, ◌*◌, ◌^◌, ◌≤◌, Bool, true, sym, refl, ap, ◌∙◌, arith, pow_pos, pow_mono}
+use Rattle.std.proofs.Common.{ℕ, ◌+◌, ◌-◌, ◌*◌, ◌^◌, ◌≤◌, Bool, true, sym, refl, ap, ◌∙◌, arith, pow_pos, pow_mono}
 use lib.Bits.{bit_and}
 use Rattle.cubes.specs.Cubes.{held}
 use Rattle.cubes.proofs.Bits.{one_shift}

@@ -1,4 +1,4 @@
-use Rattle.std.proofs.Common.{◌-◌, refl}
+use Rattle.std.proofs.Common.{refl}
 use Rattle.search.proofs.Lows.{cut_rows, cut_none}
 use Rattle.search.proofs.branch.Branch.of_cube.Goals as goal
 
