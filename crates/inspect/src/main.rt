@@ -1,10 +1,12 @@
 // Prints a circuit's numbers, how many solutions it has and the smallest of them.
 #![tactic(auto)]
 
+ghost use Rattle.std.specs.Prelude.{◌≡◌, false, is_ok};
+
 use circuit::{Ternary, Word};
 use faults::JobFault;
 use inspection::{Memory, Summary, row_text};
-use shell::{BIT_WORDS, Failure, GATE_WORDS, PLACES, explain, read_file};
+use shell::{BIT_WORDS, Failure, GATE_WORDS, PLACES, explain, read_file, refuse};
 use std::alloc::{AllocError, Global};
 
 // A look at the file, with memory of its own.
@@ -41,15 +43,19 @@ fn show(rt: &HostRuntime, summary: Summary) -> Result<(), Failure> {
     Ok(())
 }
 
+// Prints the summary or the refusal. No refusal is a success.
+fn tell(rt: &HostRuntime, answer: Result<Summary, JobFault>) -> Result<(), Failure>
+    ensures { is_ok answer ≡ false → is_ok result ≡ false }
+{
+    match answer {
+        Ok(summary) => show(rt, summary),
+        Err(fault) => refuse(rt, fault),
+    }
+}
+
 fn attempt(rt: &HostRuntime) -> Result<(), Failure> {
     let file = read_file(rt)?;
-    match look(rt.alloc(), &file)? {
-        Ok(summary) => show(rt, summary),
-        Err(fault) => {
-            println!(rt; "{fault}")?;
-            Err(Failure::Refused)
-        }
-    }
+    tell(rt, look(rt.alloc(), &file)?)
 }
 
 fn main(rt: HostRuntime) -> Result<(), Failure> {

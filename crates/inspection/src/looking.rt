@@ -1,7 +1,10 @@
 // A first look at a file's circuit.
-ghost use Rattle.std.specs.Prelude.{◌≡◌, ◌/◌, length, if◌then◌else◌, None, nat_le};
+ghost use Rattle.std.specs.Prelude.{◌≡◌, ◌/◌, false, not, length, if◌then◌else◌, None, is_ok, nat_le};
+ghost use Rattle.circuit.specs.Limits.{max_table_inputs};
 ghost use Rattle.listing.specs.Limits.{max_inputs};
 ghost use Rattle.listing.specs.Widest.{lead};
+ghost use Rattle.jobs.specs.Afterwards.{gates_after, search_asked, table_asked, table_made};
+ghost use Rattle.inspection.specs.Rooms.{job_room};
 ghost use Rattle.inspection.specs.Inspections.{smallest_by, summary_of, counted_summary, searched_summary, circuit_summary, inspected};
 ghost use Rattle.search.specs.Searches.{made_of};
 ghost use Rattle.table.specs.Tables.{table_answer};
@@ -27,7 +30,8 @@ fn smallest_in_table(
     bits: &mut [u32],
     words: &mut [Word],
 ) -> Result<Option<Row>, TableFault>
-    ensures { result ≡ smallest_by (table_answer circuit.now.inputs circuit.now.gates.now (length bits.old) (length words.old)) (circuit.now.inputs, circuit.now.output, circuit.now.gates.now) }
+    ensures value { result ≡ smallest_by (table_answer circuit.now.inputs circuit.now.gates.now (length bits.old) (length words.old)) (circuit.now.inputs, circuit.now.output, circuit.now.gates.now) }
+    ensures words { is_ok (table_answer circuit.now.inputs circuit.now.gates.now (length bits.old) (length words.old)) ≡ false → words.new ≡ words.old }
 {
     let (mut table, made) = Table::make(circuit, bits, words);
     made?;
@@ -63,7 +67,8 @@ fn with_table(
     bits: &mut [u32],
     words: &mut [Word],
 ) -> Result<Summary, TableFault>
-    ensures { result ≡ counted_summary (circuit.now.inputs, circuit.now.output, circuit.now.gates.now) (length bits.old) (length words.old) }
+    ensures value { result ≡ counted_summary (circuit.now.inputs, circuit.now.output, circuit.now.gates.now) (length bits.old) (length words.old) }
+    ensures words { is_ok (table_answer circuit.now.inputs circuit.now.gates.now (length bits.old) (length words.old)) ≡ false → words.new ≡ words.old }
 {
     let smallest = smallest_in_table(circuit, bits, words)?;
     let count = count_solutions(circuit, words)?;
@@ -84,7 +89,10 @@ fn look(
     words: &mut [Word],
     signals: &mut [Ternary],
 ) -> Result<Summary, TableFault>
-    ensures { result ≡ circuit_summary (circuit.entry.inputs, circuit.entry.output, circuit.entry.gates.now) (length bits.old) (length words.old) (length signals.old) }
+    ensures value { result ≡ circuit_summary (circuit.entry.inputs, circuit.entry.output, circuit.entry.gates.now) (length bits.old) (length words.old) (length signals.old) }
+    ensures bits { nat_le circuit.entry.inputs max_table_inputs ≡ false → bits.new ≡ bits.old }
+    ensures words { is_ok (table_answer circuit.entry.inputs circuit.entry.gates.now (length bits.old) (length words.old)) ≡ false → words.new ≡ words.old }
+    ensures signals { not (nat_le circuit.entry.inputs max_table_inputs) ≡ false → signals.new ≡ signals.old }
 {
     if circuit.inputs() <= MAX_TABLE_INPUTS {
         return with_table(&circuit, bits, words);
@@ -92,9 +100,15 @@ fn look(
     with_search(circuit, signals)
 }
 
-// The circuit's numbers, the number of its solutions up to 16 inputs, and the smallest solution.
+// The circuit's numbers, the number of its solutions up to 16 inputs, and the smallest solution. Afterwards the gate table
+// holds what was read. Left open is only the memory of the decider that is asked for, as after a job. The clauses name the
+// fields of the memory at the return by place: .0 is the gate table, .1 what comes after it, and so on.
 pub fn inspect(file: &[u8], memory: Memory) -> Result<Summary, JobFault>
-    ensures { result ≡ inspected file.now (record { gate_table = length memory.entry.gate_table.now; bits = length memory.entry.bits.now; words = length memory.entry.words.now; signals = length memory.entry.signals.now }) }
+    ensures value { result ≡ inspected file.now (record { gate_table = length memory.entry.gate_table.now; bits = length memory.entry.bits.now; words = length memory.entry.words.now; signals = length memory.entry.signals.now }) }
+    ensures gates { memory.exit.0.now ≡ gates_after file.now (job_room memory.entry) }
+    ensures bits { table_asked file.now (job_room memory.entry) ≡ false → memory.exit.1.0.now ≡ memory.entry.bits.now }
+    ensures words { table_made file.now (job_room memory.entry) ≡ false → memory.exit.1.1.0.now ≡ memory.entry.words.now }
+    ensures signals { search_asked file.now (job_room memory.entry) ≡ false → memory.exit.1.1.1.0.now ≡ memory.entry.signals.now }
 {
     let Memory {
         gate_table,

@@ -1,12 +1,15 @@
 -- What a job with memory of its own gives.
 --   room   the lengths of the work memory
 --   said   the text is that of the list of the file's circuit, or the refusal is the job's
+--   blank  memory as it is allocated: a register of zeros, a text of zeros
+--   answer the text of the list, or the refusal
 -- Assumes nothing.
-use Rattle.std.specs.Prelude.{◌≡◌, ℕ, ◌+◌, ◌*◌, List, length, Err, vec_items}
+use Rattle.std.specs.Prelude.{◌≡◌, ℕ, ◌+◌, ◌*◌, List, length, take, replicate, Ok, Err, Result, vec_items}
 use Rattle.circuit.specs.Limits.{max_inputs, max_gates}
 use Rattle.cubes.specs.declared.entry.Entry.{Entry}
+use Rattle.cubes.specs.Cubes.{blank}
 use Rattle.faults.specs.declared.job.JobFault.{JobFault}
-use Rattle.jobs.specs.Lists.{Room, list_of}
+use Rattle.jobs.specs.Lists.{Outcome as JobOutcome, Room, list_of}
 use Rattle.jobs.specs.Told.{Told}
 use Rattle.shell.specs.declared.job.Outcome.{Outcome}
 use Rattle.shell.specs.declared.job.Outcome.TheVariants.{Text, Refused}
@@ -34,3 +37,25 @@ pub record Refuses (file : List ℕ) (mode : ℕ) (fault : JobFault) : Type 0 wh
 abbrev pub Said : List ℕ → ℕ → Outcome → Type 0
 Said file mode (Text v) = Told file room.gate_table mode (vec_items v)
 Said file mode (Refused fault) = Refuses file mode fault
+
+-- ---- by a defined value
+
+-- the register and the text memory as they are allocated
+abbrev pub blank_register : List Entry
+blank_register = replicate entry_count blank
+
+abbrev pub blank_text : List ℕ
+blank_text = replicate text_bytes 0
+
+-- the text of the list, or the refusal
+abbrev pub answer_of : Outcome → Result (List ℕ) JobFault
+answer_of (Text v) = Ok (vec_items v)
+answer_of (Refused fault) = Err fault
+
+-- the text that the job leaves in the text memory, or its refusal
+abbrev pub answer_in : JobOutcome → Result (List ℕ) JobFault
+answer_in (Ok size, text) = Ok (take size text)
+answer_in (Err fault, text) = Err fault
+
+abbrev pub worked : List ℕ → ℕ → Result (List ℕ) JobFault
+worked file mode = answer_in (list_of file mode room blank_register blank_text)

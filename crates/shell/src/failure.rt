@@ -1,4 +1,7 @@
 // Why a program ends with status 1.
+ghost use Rattle.std.specs.Prelude.{◌≡◌, false, is_ok};
+
+use faults::JobFault;
 use std::alloc::AllocError;
 use std::io;
 
@@ -26,8 +29,18 @@ impl From<io::Error> for Failure {
     }
 }
 
+// Prints a refusal, with which the program fails.
+pub fn refuse(rt: &HostRuntime, fault: JobFault) -> Result<(), Failure>
+    ensures { is_ok result ≡ false }
+{
+    println!(rt; "{fault}")?;
+    Err(Failure::Refused)
+}
+
 // Says on standard error why a program fails, and hands the result on. A refusal is printed already.
-pub fn explain(rt: &HostRuntime, res: Result<(), Failure>) -> Result<(), Failure> {
+pub fn explain(rt: &HostRuntime, res: Result<(), Failure>) -> Result<(), Failure>
+    ensures { is_ok result ≡ is_ok res }
+{
     if let Err(failure) = res {
         match failure {
             Failure::Usage => eprintln!(rt;

@@ -1,6 +1,6 @@
 // One job with memory of its own.
-ghost use Rattle.std.specs.Prelude.{IfOk};
-ghost use Rattle.shell.specs.Outcomes.{Said};
+ghost use Rattle.std.specs.Prelude.{◌≡◌, IfOk};
+ghost use Rattle.shell.specs.Outcomes.{Said, answer_of, worked};
 
 use crate::sizes::{BIT_WORDS, GATE_WORDS, PLACES};
 use circuit::{Ternary, Word};
@@ -24,7 +24,8 @@ pub enum Outcome {
 
 // Allocates the memory, and lists the file's circuit with it.
 pub fn work(heap: Global, file: &[u8], mode: u32) -> Result<Outcome, AllocError>
-    ensures { IfOk result (Said file.now mode) }
+    ensures said { IfOk result (Said file.now mode) }
+    ensures value { IfOk result (λ o. answer_of o ≡ worked file.now mode) }
 {
     let mut gate_table = vec![in heap; 0u32; GATE_WORDS]?;
     let mut bits = vec![in heap; 0u32; BIT_WORDS]?;

@@ -1,4 +1,5 @@
-use Rattle.std.proofs.Common.{ℕ, ◌≤◌, List}
+use Rattle.std.proofs.Common.{ℕ, ◌≤◌, List, is_ok, Result, ap, ◌∙◌}
+use Rattle.faults.specs.declared.table.TableFault.{TableFault}
 use Rattle.listing.specs.Limits.{max_inputs}
 use Rattle.inspection.proofs.Smallest.{smallest_by_lem}
 use Rattle.inspection.proofs.looking.smallest_in_table.Goals as goal
@@ -8,5 +9,8 @@ returns c =
     let circuit = c.args.circuit.now in
     let numbers : ℕ × ℕ × List ℕ = (circuit.inputs, circuit.output, circuit.gates.now) in
     let few : circuit.inputs ≤ max_inputs = circuit.ranged.1 in
-    smallest_by_lem c.make-made.result.1 _ numbers _ _ _ few c.make-made.ensures.answer c.in_ok-made.was c.make-made.ensures.inputs
-    c.make-made.ensures.rows c.smallest.ensures
+    let e = c.make-made.ensures in
+    record {
+      value = smallest_by_lem c.make-made.result.1 _ numbers _ _ _ few e.answer c.in_ok-made.was e.inputs e.rows c.smallest.ensures;
+      words = λ no. e.values (ap (λ (m : Result (Unit {0}) TableFault). is_ok m) e.answer ∙ no);
+    }
