@@ -5,7 +5,7 @@
  * function: for every file, mode and text memory its contract says what the call gives and what the memory holds
  * afterwards. docs/C.md tells it in words.
  *
- * The library is target/staticlib/libcapi.a, which `rt staticlib capi` makes. It needs nothing but memset.
+ * The library is crates/capi/out/libcapi.a, which `rt lib` makes in crates/capi. It needs nothing but memset.
  */
 #ifndef JEROVUHA_H
 #define JEROVUHA_H

@@ -4,7 +4,7 @@
     python3 tools/misuses.py
 
 The gate's must-fail edits cannot show this, since they take an edit that does not compile for a mistake in the edit. So each
-misuse is put into a crate of its own beside a copy of the repository's crates, and `rt dev` must give the message that stands
+misuse is put into a crate of its own beside a copy of the repository's crates, and `rt check` must give the message that stands
 with it. The right use, with which it begins, must be proved.
 """
 
@@ -16,7 +16,9 @@ import tempfile
 
 ROOT = pathlib.Path(__file__).resolve().parent.parent
 
-HEAD = """use cubes::Cube;
+HEAD = """#![tactic(auto)]
+
+use cubes::Cube;
 use cubes::Decider;
 use cubes::Entry;
 use listing::Draft;
@@ -46,27 +48,29 @@ USES = [
 ]
 
 
+# the crates that a misuse stands on, and their line of crates.txt
+BELOW = {"faults": "", "cubes": "", "listing": "faults cubes", "pla": "faults cubes listing", "misuse": "faults cubes listing pla"}
+
+
 def main():
     wrong = 0
     with tempfile.TemporaryDirectory() as folder:
-        copy = pathlib.Path(folder) / "repository"
-        copy.mkdir()
-        for part in ("crates", "target"):
-            if (ROOT / part).exists():
-                shutil.copytree(ROOT / part, copy / part)
-        listed = (ROOT / "crates.txt").read_text()
-        (copy / "crates.txt").write_text(listed + "misuse: faults cubes listing pla\n")
+        copy = pathlib.Path(folder)
+        for crate in BELOW:
+            if crate != "misuse":
+                shutil.copytree(ROOT / "crates" / crate, copy / "crates" / crate)
+        (copy / "crates.txt").write_text("".join("%s: %s\n" % line for line in BELOW.items()))
         source = copy / "crates/misuse/src/lib.rt"
         source.parent.mkdir(parents=True)
         for name, code, message in USES:
             source.write_text(HEAD + code + "\n")
-            run = subprocess.run(["rt", "dev", "misuse"], cwd=copy, capture_output=True, text=True)
+            run = subprocess.run(["rt", "check"], cwd=copy / "crates/misuse", capture_output=True, text=True)
             said = run.stdout + run.stderr
             if message is None:
                 fine = run.returncode == 0
                 print(name + ":", "proved" if fine else "NOT PROVED\n" + said)
             else:
-                fine = run.returncode != 0 and message.replace("`", "'") in said.replace("`", "'")
+                fine = run.returncode != 0 and message in said
                 print(name + ":", "does not compile (%s)" % message if fine else "OTHER THAN IT SHOULD BE\n" + said)
             wrong += not fine
     sys.exit(1 if wrong else 0)

@@ -6,8 +6,9 @@ ghost use Rattle.std.specs.Prelude.{◌≡◌, false, is_ok};
 use circuit::{Ternary, Word};
 use faults::JobFault;
 use inspection::{Memory, Summary, row_text};
-use shell::{BIT_WORDS, Failure, GATE_WORDS, PLACES, explain, read_file, refuse};
+use shell::{BIT_WORDS, Failure, GATE_WORDS, PLACES, explain, read_file, refuse, status};
 use std::alloc::{AllocError, Global};
+use std::process::ExitCode;
 
 // A look at the file, with memory of its own.
 fn look(heap: Global, file: &[u8]) -> Result<Result<Summary, JobFault>, AllocError> {
@@ -58,6 +59,6 @@ fn attempt(rt: &HostRuntime) -> Result<(), Failure> {
     tell(rt, look(rt.alloc(), &file)?)
 }
 
-fn main(rt: HostRuntime) -> Result<(), Failure> {
-    explain(&rt, attempt(&rt))
+fn main(rt: HostRuntime) -> ExitCode {
+    status(explain(&rt, attempt(&rt)))
 }

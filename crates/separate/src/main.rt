@@ -1,10 +1,11 @@
 // Prints the list of a circuit's solutions as separate cubes: no row lies in two of them.
 #![tactic(auto)]
 
-use shell::{Failure, run};
+use shell::{run, status};
+use std::process::ExitCode;
 
 const SEPARATE: u32 = 1;
 
-fn main(rt: HostRuntime) -> Result<(), Failure> {
-    run(&rt, SEPARATE)
+fn main(rt: HostRuntime) -> ExitCode {
+    status(run(&rt, SEPARATE))
 }

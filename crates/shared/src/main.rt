@@ -1,10 +1,11 @@
 // Prints the list of a circuit's solutions as cubes that may share rows.
 #![tactic(auto)]
 
-use shell::{Failure, run};
+use shell::{run, status};
+use std::process::ExitCode;
 
 const SHARED: u32 = 2;
 
-fn main(rt: HostRuntime) -> Result<(), Failure> {
-    run(&rt, SHARED)
+fn main(rt: HostRuntime) -> ExitCode {
+    status(run(&rt, SHARED))
 }

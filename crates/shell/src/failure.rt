@@ -1,9 +1,11 @@
 // Why a program ends with status 1.
-ghost use Rattle.std.specs.Prelude.{◌≡◌, false, is_ok};
+ghost use Rattle.std.specs.Prelude.{◌≡◌, false, is_ok, if◌then◌else◌};
+ghost use Rattle.std.specs.Process.{exit_status};
 
 use faults::JobFault;
 use std::alloc::AllocError;
 use std::io;
+use std::process::ExitCode;
 
 #[derive(Clone, Copy, Debug)]
 pub enum Failure {
@@ -52,4 +54,14 @@ pub fn explain(rt: &HostRuntime, res: Result<(), Failure>) -> Result<(), Failure
         }
     }
     res
+}
+
+// The status that a program ends with. Why it fails is told by then.
+pub fn status(res: Result<(), Failure>) -> ExitCode
+    ensures { exit_status result ≡ (if is_ok res then 0 else 1) }
+{
+    match res {
+        Ok(()) => ExitCode::from(0),
+        Err(_) => ExitCode::from(1),
+    }
 }

@@ -9,7 +9,7 @@ mod job;
 mod program;
 mod sizes;
 
-pub use failure::{Failure, explain, refuse};
+pub use failure::{Failure, explain, refuse, status};
 pub use input::read_file;
 pub use program::run;
 pub use sizes::{BIT_WORDS, GATE_WORDS, PLACES};
