@@ -1,7 +1,7 @@
 #!/usr/bin/env python3
 """Gives the repository's own definitions, fields and lemmas the spelling of the kit: words in snake case.
 
-    python3 tools/port_names.py          rewrites crates/ (run once, after port.py)
+    python3 tools/port_names.py          rewrites crates/ (once, after port.py, where docs/PORT.md does not stand yet)
     python3 tools/port_names.py --list   prints each renaming, and what falls together
 
 Types, modules, variants and names that the library or the checker gave keep theirs.
@@ -101,6 +101,8 @@ def fields():
 
 
 def main():
+    if (ROOT / "docs/PORT.md").exists():
+        sys.exit("port_names: docs/PORT.md stands, so the names have their spelling")
     mapping, tokens = names()
     fields()
     clashes = {n: s for n, s in mapping.items() if s in tokens}

@@ -1,6 +1,6 @@
 -- The whole file: the gate table and the answer, for every list of bytes. Assumes nothing.
 --
---   answer        what the gate table holds after, and the reading or the first fault
+--   answer         what the gate table holds after, and the reading or the first fault
 --   into_of bs t   the file bs read over a table t
 --   read_of bs n   the file bs read into a table of n words, whatever they were: where it is refused, all of them are 0
 use Rattle.std.specs.Prelude.{ℕ, cond, List, length, replicate, Ok, Err, Result, nat_lt}

@@ -4,7 +4,7 @@
 --   state         where in the line the machine stands: at its start, at the position, at the blank after it, in the name
 --                 after so many bytes of it; behind the c of the comment, or done
 --   slot          the place of a letter and a position among the marks of those already seen
---   step_of        what the byte where the machine stands does, or the position that begins there
+--   step_of       what the byte where the machine stands does, or the position that begins there
 --   ran           steps, up to so many, until the file ends or the machine is done, and then the end
 use Rattle.std.specs.Prelude.{ℕ, zero, suc, ◌+◌, Bool, true, false, cond, List, length, replicate, Some, None, Ok, Err, Option, Result, ◌==◌, nat_le, nat_lt, slice_index, slice_index_or, slice_set}
 use Rattle.circuit.specs.Limits.{max_inputs}

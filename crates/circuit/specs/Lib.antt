@@ -6,4 +6,3 @@ pub mod Answers
 pub mod Lanes
 pub mod Counts
 pub mod Words
-pub mod WordValueLemmas

@@ -1,7 +1,7 @@
 // The work memory of a look at a file.
 use circuit::{Ternary, Word};
 
-// Lent by the caller. What it holds afterwards is free.
+// Lent by the caller, with any content. The contract of `inspect` says what it holds afterwards.
 #[derive(Drop)]
 pub struct Memory<'a> {
     // Two words a gate.

@@ -2,7 +2,7 @@
 --   asked   the table decider for few inputs, the search decider for many; none where the reading is refused
 --   made    a table is, where there are few inputs and room enough
 -- Assumes nothing.
-use Rattle.std.specs.Prelude.{ℕ, Bool, false, not, leb, List, is_ok, Ok, Err, Result, nat_le}
+use Rattle.std.specs.Prelude.{ℕ, Bool, false, not, List, is_ok, Ok, Err, Result, nat_le}
 use Rattle.faults.specs.declared.table.TableFault.{TableFault}
 use Rattle.circuit.specs.Circuits.{taken_up}
 use Rattle.circuit.specs.Limits.{max_table_inputs}
@@ -39,7 +39,7 @@ register_after file mode room register = after_reading register file room (λ c.
 -- ---- the deciders
 
 abbrev pub table_asked : List ℕ → Room → Bool
-table_asked file room = after_reading false file room (λ c. leb c.0 max_table_inputs)
+table_asked file room = after_reading false file room (λ c. nat_le c.0 max_table_inputs)
 
 abbrev pub table_made : List ℕ → Room → Bool
 table_made file room = after_reading false file room (λ c. is_ok (table_answer c.0 c.2 room.bits room.words))

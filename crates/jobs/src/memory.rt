@@ -2,7 +2,7 @@
 use circuit::{Ternary, Word};
 use cubes::Entry;
 
-// Lent by the caller. What it holds afterwards is free.
+// Lent by the caller, with any content. The contract of `list` says what it holds afterwards.
 #[derive(Drop)]
 pub struct Memory<'a> {
     // Two words a gate.

@@ -2,7 +2,7 @@
 --   position   what a cube has at an input: fixed to 0, fixed to 1, or open
 --   line       bytes; in a text byte 10 ends each
 --   head       the lines of the numbers of inputs, outputs and cubes
---   text       the head, a line for each cube in the list's order, and the line.e
+--   text       the head, a line for each cube in the list's order, and the line .e
 --   memory     the bytes that a call is lent for the text
 -- Assumes nothing.
 use Rattle.std.specs.Prelude.{ℕ, zero, suc, ◌/◌, ◌%◌, ◌^◌, cond, List, [], ◌∷◌, ◌++◌, map, length, drop, Ok, Err, codes, decimal, Result, ◌==◌, nat_lt}

@@ -1,10 +1,10 @@
 -- The table decider: a bit for each row, and what its making answers.
---   table         a list of words: row r is bit r mod 32 of word r / 32
+--   table          a list of words: row r is bit r mod 32 of word r / 32
 --   rows_of        the rows that a table of n inputs means
 --   word_of        a word of the table of a set: bits that are no rows are 0
---   filled        the table of a set, and further words as they were
+--   filled         the table of a set, and further words as they were
 --   table_answer   what making a table answers, with a table of so many words and a value table of so many places
---   fits          a row fits a question, where its bit of the table is `kind`
+--   fits           a row fits a question, where its bit of the table is `kind`
 -- Assumes nothing.
 use Rattle.std.specs.Prelude.{ℕ, ◌+◌, ◌*◌, ◌/◌, ◌%◌, ◌^◌, Bool, cond, not, ◌&&◌, List, ◌++◌, map, drop, Ok, Err, Result, nat_lt, slice_index}
 use Rattle.std.specs.List.{range_with_len}

@@ -1,11 +1,11 @@
 -- Lines of numbers: numbers parted by one blank, and a newline. Assumes nothing.
 --
 --   place           a byte's offset from the start of the file, from 0; each answer ends with the place after what was read
---   expect_at        the byte that is due at a place, or a misfit there
---   item_at          a number and the byte that is due after it
---   numbers_at       a number, so many more of them, and the newline
---   word_at          the word aag and a blank, at the start of the file
---   header_at        the word and five numbers
+--   expect_at       the byte that is due at a place, or a misfit there
+--   item_at         a number and the byte that is due after it
+--   numbers_at      a number, so many more of them, and the newline
+--   word_at         the word aag and a blank, at the start of the file
+--   header_at       the word and five numbers
 use Rattle.std.specs.Prelude.{ℕ, zero, suc, ◌+◌, cond, ◌&&◌, List, [], ◌∷◌, length, Ok, Err, Result, ◌==◌, nat_lt, slice_index}
 use Rattle.faults.specs.declared.text.TextFault.{TextFault}
 use Rattle.faults.specs.declared.text.TextFault.TheVariants.{Misfit}

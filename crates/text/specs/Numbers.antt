@@ -2,7 +2,7 @@
 --
 --   run         the longest run of digits from a place on
 --   fair        a run of one to five digits, with no 0 before another
---   number_at    the value of the run at a place and the place after it; no digit is a misfit at the place, and a run that
+--   number_at   the value of the run at a place and the place after it; no digit is a misfit at the place, and a run that
 --               is not fair is a bad number there
 use Rattle.std.specs.Prelude.{ℕ, ◌+◌, ◌-◌, ◌*◌, Bool, cond, not, ◌&&◌, ◌||◌, List, [], ◌∷◌, length, drop, Ok, Err, Result, ◌==◌, nat_le, slice_index}
 use Rattle.faults.specs.declared.text.TextFault.{TextFault}

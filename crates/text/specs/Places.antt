@@ -1,6 +1,6 @@
 -- The line of a place of a file. Assumes nothing.
 --
---   newlines      how many bytes of a list are newlines, byte 10
+--   newlines       how many bytes of a list are newlines, byte 10
 --   line_of bs p   1 and the newlines before place p
 use Rattle.std.specs.Prelude.{ℕ, ◌+◌, cond, List, [], ◌∷◌, take, ◌==◌}
 

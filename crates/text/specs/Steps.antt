@@ -3,7 +3,7 @@
 --   due          where in the line the machine stands: at byte k of the word aag, at the blank before number k, at number k,
 --                at the newline, or after it; a line's last number is number 4, and a shorter line begins at a later one
 --   fits         the class that is due in each state; every other class is a misfit
---   step_of       what the byte where the machine stands does, or the number that begins there
+--   step_of      what the byte where the machine stands does, or the number that begins there
 --   ran          steps, up to so many, until the line has ended, and then the end
 use Rattle.std.specs.Prelude.{ℕ, zero, suc, ◌+◌, Bool, true, false, cond, List, [], ◌∷◌, length, replicate, Ok, Err, Result, ◌==◌, nat_lt, slice_index, slice_set}
 use Rattle.faults.specs.declared.text.TextFault.{TextFault}
