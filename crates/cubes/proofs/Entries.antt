@@ -1,24 +1,18 @@
 -- A list of entries, one by one, and the row that a cube and an entry share if they share any.
-use Rattle.std.proofs.Common.{◌≡◌, ℕ, zero, suc, ◌<◌, Bool, true, false, ◌&&◌, List, [], ◌∷◌, length, get_or, refl, arith, ltb-true, lt-ltb, eq-eqb, eqb-true}
+use Rattle.std.proofs.Common.{◌≡◌, ℕ, suc, ◌<◌, Bool, true, false, ◌&&◌, List, [], ◌∷◌, length, get_or, refl, arith, ltb-true, lt-ltb, eq-eqb, eqb-true}
 use lib.Bits.{bit_and, bit_or}
-use Rattle.std.proofs.lemmas.Bool.{and_parts, and_from, or_left, or_right, or_from}
+use Rattle.std.proofs.lemmas.List.Folds.{list_any_at}
+use Rattle.std.proofs.lemmas.Bool.{and_parts, and_from, or_from}
 use Rattle.cubes.specs.declared.entry.Entry.{Entry}
 use Rattle.cubes.specs.Cubes.{within, holds, held, care_of, value_of, blank, Shared, Touch}
 use Rattle.cubes.proofs.Bits.{join_left, join_right, join_le}
-
--- what is not true is false
-pub not-true : (b : Bool) → (b ≡ true → ⊥) → b ≡ false
-not-true true f = absurd (f refl)
-not-true false f = refl
 
 -- the entry at place i holds the row
 abbrev pub holds_at : List Entry → ℕ → ℕ → Bool
 holds_at es i row = within (care_of (get_or es i blank)) (value_of (get_or es i blank)) row
 
 pub held_at : (es : List Entry) (i row : ℕ) → i < length es → holds_at es i row ≡ true → held es row ≡ true
-held_at [] i row lt h = absurd (omega arith)
-held_at (e ∷ es) zero row lt h = or_left _ (held es row) h
-held_at (e ∷ es) (suc i) row lt h = or_right _ (held es row) (held_at es i row (omega arith) h)
+held_at es i row lt h = list_any_at _ es i blank lt h
 
 pub held_none : (es : List Entry) (row : ℕ) → ((i : ℕ) → i < length es → holds_at es i row ≡ false) → held es row ≡ false
 held_none [] row f = refl

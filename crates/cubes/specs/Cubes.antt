@@ -8,11 +8,13 @@
 --   Touch     the cube and the entry share a row
 --   Touches   the place of the first entry that the cube touches, or none
 -- Assumes nothing.
-use Rattle.std.specs.Prelude.{◌≡◌, ℕ, ◌+◌, ◌*◌, ◌%◌, ◌^◌, ◌<◌, Bool, true, false, ◌&&◌, ◌||◌, List, [], ◌∷◌, length, Option, MatchOption, ◌==◌, bit_and, nat_lt, slice_index_or}
+use Rattle.std.specs.Prelude.{◌≡◌, ℕ, ◌+◌, ◌*◌, ◌%◌, ◌^◌, ◌<◌, Bool, true, ◌&&◌, List, length, Option, MatchOption, ◌==◌, bit_and, nat_lt, slice_index_or}
+use Rattle.std.specs.List.{list_any}
+use Rattle.cubes.specs.Limits.{max_inputs}
 use Rattle.cubes.specs.declared.entry.Entry.{Entry}
 
 abbrev pub number_limit : ℕ
-number_limit = 2 ^ 30
+number_limit = 2 ^ max_inputs
 
 abbrev pub within : ℕ → ℕ → ℕ → Bool
 within care value row = bit_and row care == value
@@ -45,8 +47,7 @@ blank = record { care = 0; value = 0 }
 -- ---- lists of entries
 
 abbrev pub held : List Entry → ℕ → Bool
-held [] row = false
-held (e ∷ es) row = within (care_of e) (value_of e) row || held es row
+held es row = list_any (λ e. within (care_of e) (value_of e) row) es
 
 -- a row that the cube and the entry share
 pub record Shared (n care value : ℕ) (e : Entry) (row : ℕ) : Type 0 where

@@ -1,2 +1,5 @@
+pub mod Limits
+pub mod Rows
 pub mod Cubes
 pub mod Deciders
+pub mod Questions

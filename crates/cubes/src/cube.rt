@@ -5,8 +5,11 @@ ghost use Rattle.cubes.specs.Cubes.{number_limit, holds, within};
 // A bit for each input, input 1 the highest.
 pub type Row = u32;
 
+// The most inputs that a cube can fix.
+pub const MAX_INPUTS: u32 = 30;
+
 // The numbers of a cube are below this.
-const NUMBER_LIMIT: u32 = 1 << 30;
+const NUMBER_LIMIT: u32 = 1 << MAX_INPUTS;
 
 // An input is fixed to its bit of `value` where its bit of `care` is 1.
 #[derive(Clone, Copy)]
@@ -61,10 +64,7 @@ impl Cube {
     pub fn holds(self, n: u32, row: Row) -> bool
         ensures { result ≡ holds n self.care self.value row }
     {
-        if !is_row(row, n) {
-            return false;
-        }
-        self.agrees(row)
+        is_row(row, n) && self.agrees(row)
     }
 }
 
@@ -72,8 +72,5 @@ impl Cube {
 fn is_row(number: u32, n: u32) -> bool
     ensures { result ≡ nat_lt number (2 ^ n) }
 {
-    if n >= 32 {
-        return true;
-    }
-    number < 1 << n
+    n >= 32 || number < 1 << n
 }

@@ -1,8 +1,17 @@
 // A decider means a number of inputs and a set of rows, and answers questions about them.
 ghost use Rattle.std.specs.Prelude.{◌≡◌, ℕ, Bool};
-ghost use Rattle.cubes.specs.Deciders.{Answer};
+ghost use Rattle.cubes.specs.Deciders.{Kept};
+ghost use Rattle.cubes.specs.Questions.{Answered};
 
 use crate::{Cube, Entry, Row};
+
+// For a row of the cube that no barred entry holds, in the set if it is wanted, else outside it.
+#[derive(Clone, Copy)]
+pub struct Question<'a> {
+    pub cube: Cube,
+    pub wanted: bool,
+    pub barred: &'a [Entry],
+}
 
 pub trait Decider {
     // How many inputs.
@@ -14,9 +23,8 @@ pub trait Decider {
     fn inputs(&self) -> u32
         ensures { result ≡ arity self.now };
 
-    // A row of the cube that no barred entry holds, in the set if `wanted`, else outside it; nothing where there is none.
-    fn ask(&mut self, cube: Cube, wanted: bool, barred: &[Entry]) -> Option<Row>
-        ensures answer { Answer (arity self.old) (rows self.old) cube.care cube.value wanted barred.now result }
-        ensures inputs_kept { arity self.new ≡ arity self.old }
-        ensures rows_kept { rows self.new ≡ rows self.old };
+    // Such a row, or nothing where there is none.
+    fn ask(&mut self, question: Question) -> Option<Row>
+        ensures answer { Answered (arity self.old) (rows self.old) question.entry result }
+        ensures kept { Kept arity rows self.old self.new };
 }

@@ -8,7 +8,7 @@ mod decider;
 mod entry;
 mod list;
 
-pub use cube::{Cube, Row};
-pub use decider::Decider;
+pub use cube::{Cube, MAX_INPUTS, Row};
+pub use decider::{Decider, Question};
 pub use entry::Entry;
 pub use list::{held, touches};

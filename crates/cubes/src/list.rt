@@ -8,24 +8,14 @@ use crate::{Cube, Entry, Row};
 pub fn held(entries: &[Entry], row: Row) -> bool
     ensures { result ≡ held entries.now row }
 {
-    for e in entries {
-        if e.cube().agrees(row) {
-            return true;
-        }
-    }
-    false
+    entries.iter().any(|e| e.cube().agrees(row))
 }
 
 // The place of the first entry that shares a row of n inputs with the cube.
 pub fn touches(cube: Cube, entries: &[Entry], n: u32) -> Option<usize>
     ensures { Touches n cube.care cube.value entries.now result }
 {
-    for (i, e) in entries.iter().enumerate() {
-        if meets(cube, *e, n) {
-            return Some(i);
-        }
-    }
-    None
+    entries.iter().position(|e| meets(cube, *e, n))
 }
 
 // Whether the cube and the entry share a row. If they share any, they share the one with no bit but those of their values.
@@ -41,8 +31,5 @@ fn meets(cube: Cube, e: Entry, n: u32) -> bool
 fn share(a: Cube, b: Cube, n: u32, row: Row) -> bool
     ensures { result ≡ (holds n a.care a.value row && within b.care b.value row) }
 {
-    if !a.holds(n, row) {
-        return false;
-    }
-    b.agrees(row)
+    a.holds(n, row) && b.agrees(row)
 }

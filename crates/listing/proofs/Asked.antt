@@ -7,7 +7,7 @@ use Rattle.cubes.specs.declared.entry.Entry.{Entry}
 use Rattle.cubes.specs.Cubes.{within, holds, held, blank, Touch}
 use Rattle.cubes.specs.Deciders.{Fitting, Answer}
 use Rattle.cubes.proofs.Bits.{high_bits}
-use Rattle.cubes.proofs.Entries.{holds_at, held_at, held_none, not-true}
+use Rattle.cubes.proofs.Entries.{holds_at, held_at, held_none}
 use Rattle.listing.specs.Widest.{without, lead, good}
 use Rattle.listing.proofs.Least.{least_is, none_from, some_from}
 use Rattle.listing.proofs.Goodness.{without_parts, without_from}
@@ -25,7 +25,7 @@ module _ (n : ℕ) (set : ℕ → Bool) (barred : List Entry) where
   free_of row l e = let p = without_parts set (held barred) row e in record { below = l; unheld = p.1; kind = p.0 }
 
   pub lead_none : ((row : ℕ) → Free n set barred row → ⊥) → lead n (without set (held barred)) ≡ None
-  lead_none f = least_is (without set (held barred)) (2 ^ n) None (λ row l. not-true (without set (held barred) row) (λ e. f row (free_of row l e)))
+  lead_none f = least_is (without set (held barred)) (2 ^ n) None (λ row l. false_from_ne_true (without set (held barred) row) (λ e. f row (free_of row l e)))
 
   pub lead_some : (x : ℕ) → Free n set barred x → ((row : ℕ) → Free n set barred row → x ≤ row) → lead n (without set (held barred)) ≡ Some x
   lead_some x f g =
@@ -33,7 +33,7 @@ module _ (n : ℕ) (set : ℕ → Bool) (barred : List Entry) where
       (record {
         below = f.below;
         passes = without_from set (held barred) x f.kind f.unheld;
-        first = λ s l. not-true (without set (held barred) s)
+        first = λ s l. false_from_ne_true (without set (held barred) s)
             (λ e. let b = f.below in let k = g s (free_of s (omega arith) e) in let z : ⊥ = omega arith in z);
       })
 
@@ -76,13 +76,13 @@ module _ (n : ℕ) (set : ℕ → Bool) (shut : List Entry) (care value : ℕ) w
 
   pub good_so : ((i : ℕ) → i < length shut → Touch n care value (get_or shut i blank) → ⊥) → ((row : ℕ) → Fitting n set care value false [] row → ⊥)
       → good n (without set (held shut)) care value ≡ true
-  good_so f g = none_from bad (2 ^ n) (λ r l. not-true (bad r) (λ e. wrong r l e))
+  good_so f g = none_from bad (2 ^ n) (λ r l. false_from_ne_true (bad r) (λ e. wrong r l e))
     where
       wrong : (r : ℕ) → r < 2 ^ n → bad r ≡ true → ⊥
       wrong r l e =
           let p = without_parts (holds n care value) (without set (held shut)) r e in
           let w = (and_parts (ltb r (2 ^ n)) (within care value r) p.0).1 in
-          let free : held shut r ≡ false = held_none shut r (λ i k. not-true (holds_at shut i r) (λ h. f i k (r, record { below = l; inside = w; held = h }))) in
+          let free : held shut r ≡ false = held_none shut r (λ i k. false_from_ne_true (holds_at shut i r) (λ h. f i k (r, record { below = l; inside = w; held = h }))) in
           elim (cases_Bool (set r)) [
             | inl s ↦ both_ways (without set (held shut) r) p.1 (without_from set (held shut) r s free)
             | inr s ↦ g r (record { below = l; inside = w; free = refl; kind = s })

@@ -7,7 +7,7 @@ use Rattle.circuit.specs.Limits.{max_inputs}
 use Rattle.cubes.specs.declared.entry.Entry.{Entry}
 use Rattle.cubes.specs.Cubes.{within, care_of, value_of, held, blank, Touch}
 use Rattle.cubes.proofs.Bits.{and_assoc}
-use Rattle.cubes.proofs.Entries.{held_none, not-true}
+use Rattle.cubes.proofs.Entries.{held_none}
 use Rattle.search.specs.declared.barring.Barring.{Barring}
 use Rattle.search.specs.declared.barring.Barring.TheVariants.{Free, Part, Whole}
 use Rattle.search.specs.Branches.{Single, Each, Barred, fixes_all}
@@ -54,6 +54,6 @@ module _ (n care value : ℕ) (es : List Entry) (from : ℕ) where
       → Barred n care value es b
   untouched Free start none =
       let all : rest from es ≡ es = take_rest es from ∙ ap (λ i. drop i es) start in
-      λ row lt w. ap (λ l. held l row) (sym all) ∙ held_none (rest from es) row (λ i l. not-true _ (λ h. none i l (row, record { below = lt; inside = w; held = h })))
+      λ row lt w. ap (λ l. held l row) (sym all) ∙ held_none (rest from es) row (λ i l. false_from_ne_true _ (λ h. none i l (row, record { below = lt; inside = w; held = h })))
   untouched (Part e) several none = several
   untouched Whole never none = absurd never

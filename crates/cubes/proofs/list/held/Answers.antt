@@ -1,11 +1,10 @@
-use Rattle.std.proofs.Common.{◌≡◌, true, sym, arith}
-use Rattle.cubes.proofs.Entries.{holds_at, held_at, held_none}
+use Rattle.std.proofs.Common.{rules, tests}
+use Rattle.std.proofs.lemmas.Iterator.{YieldsList-from_slice}
+use Rattle.std.proofs.lemmas.Iterator.Search.{any_from_yields_List}
+use Rattle.cubes.specs.Cubes.{within, care_of, value_of}
 use Rattle.cubes.proofs.list.held.Goals as goal
 
-pub returns-then-agrees : goal.returns-then-agrees
-returns-then-agrees c =
-    let h : holds_at c.args.entries.now c.loop-e.e-index c.args.row ≡ true = cc in
-    sym (held_at c.args.entries.now c.loop-e.e-index c.args.row c.loop-e-test.true h)
-
 pub returns : goal.returns
-returns c = sym (held_none c.args.entries.now c.args.row (λ j lt. c.loop-e.invariant j (omega arith)))
+returns c =
+    any_from_yields_List (λ e. within (care_of e) (value_of e) c.args.row) _ _ _ c.any.ensures.ran (YieldsList-from_slice c.args.entries.now cc)
+    (λ x b q k. search (rules, tests))
