@@ -1,2 +1,4 @@
 pub mod Bits
 pub mod Entries
+pub mod Counts
+pub mod Questions

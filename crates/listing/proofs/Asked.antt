@@ -1,10 +1,11 @@
 -- What a decider's answers say of the lead and of a good cube.
-use Rattle.std.proofs.Common.{◌≡◌, ℕ, ◌+◌, ◌-◌, ◌*◌, ◌/◌, ◌^◌, ◌<◌, ◌≤◌, Bool, true, false, not, ltb, List, [], length, get_or, Some, None, sym, refl, ap, ◌∙◌, inl, inr, arith, shr-shr}
+use Rattle.std.proofs.Common.{◌≡◌, ℕ, ◌+◌, ◌-◌, ◌*◌, ◌/◌, ◌^◌, ◌<◌, ◌≤◌, Bool, true, false, not, ltb, List, [], length, get_or, Some, None, Option, is_some, is_none, sym, refl, ap, ◌∙◌, inl, inr, arith, shr-shr}
 use lib.Pow.{shl-shr, split}
+use borrow.Author.Tests.{clash}
 use Rattle.std.proofs.lemmas.Nat.{mul-le}
-use Rattle.std.proofs.lemmas.Bool.{both_ways, cases_Bool, eq-eqb, eqb-true, lt-ltb, and_from, and_parts, and_left, and_right}
+use Rattle.std.proofs.lemmas.Bool.{both_ways, cases_Bool, false_from_ne_true, eq-eqb, eqb-true, lt-ltb, and_from, and_parts, and_left, and_right}
 use Rattle.cubes.specs.declared.entry.Entry.{Entry}
-use Rattle.cubes.specs.Cubes.{within, holds, held, blank, Touch}
+use Rattle.cubes.specs.Cubes.{within, holds, held, blank, Touch, Touches}
 use Rattle.cubes.specs.Deciders.{Fitting, Answer}
 use Rattle.cubes.proofs.Bits.{high_bits}
 use Rattle.cubes.proofs.Entries.{holds_at, held_at, held_none}
@@ -66,15 +67,15 @@ module _ (n : ℕ) (set : ℕ → Bool) (shut : List Entry) (care value : ℕ) w
       some_from bad (2 ^ n) row l
       (without_from (holds n care value) (without set (held shut)) row (and_from (ltb row (2 ^ n)) (within care value row) (lt-ltb row (2 ^ n) l) w) e)
 
-  pub good_touch : (i : ℕ) → i < length shut → Touch n care value (get_or shut i blank) → good n (without set (held shut)) care value ≡ false
+  good_touch : (i : ℕ) → i < length shut → Touch n care value (get_or shut i blank) → good n (without set (held shut)) care value ≡ false
   good_touch i lt t =
       spoilt t.0 t.1.below t.1.inside
       (and_right (set t.0) (not (held shut t.0)) (ap not (held_at shut i t.0 lt t.1.held)))
 
-  pub good_asked : (row : ℕ) → Fitting n set care value false [] row → good n (without set (held shut)) care value ≡ false
+  good_asked : (row : ℕ) → Fitting n set care value false [] row → good n (without set (held shut)) care value ≡ false
   good_asked row f = spoilt row f.below f.inside (and_left (set row) (not (held shut row)) f.kind)
 
-  pub good_so : ((i : ℕ) → i < length shut → Touch n care value (get_or shut i blank) → ⊥) → ((row : ℕ) → Fitting n set care value false [] row → ⊥)
+  good_so : ((i : ℕ) → i < length shut → Touch n care value (get_or shut i blank) → ⊥) → ((row : ℕ) → Fitting n set care value false [] row → ⊥)
       → good n (without set (held shut)) care value ≡ true
   good_so f g = none_from bad (2 ^ n) (λ r l. false_from_ne_true (bad r) (λ e. wrong r l e))
     where
@@ -87,6 +88,17 @@ module _ (n : ℕ) (set : ℕ → Bool) (shut : List Entry) (care value : ℕ) w
             | inl s ↦ both_ways (without set (held shut) r) p.1 (without_from set (held shut) r s free)
             | inr s ↦ g r (record { below = l; inside = w; free = refl; kind = s })
           ]
+
+  -- by what the test of the shut entries and the decider gave
+  pub good_touched : (r : Option ℕ) → Touches n care value shut r → true ≡ is_some r → good n (without set (held shut)) care value ≡ false
+  good_touched None t e = absurd (clash (sym e))
+  good_touched (Some i) t e = good_touch i t.0 t.1
+
+  pub good_told : (touched wrong : Option ℕ) → Touches n care value shut touched → false ≡ is_some touched → Answer n set care value false [] wrong
+      → is_none wrong ≡ good n (without set (held shut)) care value
+  good_told (Some i) wrong t e a = absurd (clash e)
+  good_told None None t e a = sym (good_so t a)
+  good_told None (Some row) t e a = sym (good_asked row a)
 
 -- ---- halves of a row
 

@@ -8,7 +8,8 @@
 -- Cover: every unwaived solution lies in at least one cube and, in mode 1, in exactly one
 -- Tight: no input of a cube can be opened, each cube newly covers a row, and the smallest such rows rise down the list
 -- Registered: the register begins with the story's waivers and its list, and the listing counts these
-use Rattle.std.specs.Prelude.{◌≡◌, ℕ, zero, suc, ◌+◌, ◌-◌, ◌/◌, ◌%◌, ◌^◌, ◌<◌, ◌≤◌, Bool, true, false, cond, ◌||◌, ◌⊎◌, ◌↔◌, List, [], ◌∷◌, ◌++◌, map, length, take, Ok, bit_and, slice_index_or}
+use Rattle.std.specs.Prelude.{◌≡◌, ℕ, ◌+◌, ◌-◌, ◌/◌, ◌%◌, ◌^◌, ◌<◌, ◌≤◌, Bool, true, false, ◌||◌, ◌⊎◌, ◌↔◌, List, [], ◌∷◌, ◌++◌, map, length, take, Ok, bit_and, slice_index_or}
+use Rattle.cubes.specs.Rows.{count_below}
 use Rattle.cubes.specs.declared.cube.Cube.{Cube}
 use Rattle.cubes.specs.declared.entry.Entry.{Entry}
 use Rattle.cubes.specs.Cubes.{within, holds, blank}
@@ -65,14 +66,9 @@ pub record Tight (d : Draft) (S : ℕ → Bool) (ws cs : List Cube) : Type 0 whe
   pub fresh : (i : ℕ) → i < length cs → (r : ℕ) × Smallest d.arity.inputs cs i r
   pub rises : (i j r s : ℕ) → i < j → Smallest d.arity.inputs cs i r → Smallest d.arity.inputs cs j s → r < s
 
--- how many numbers below a bound pass a test
-unfoldable pub count : (ℕ → Bool) → ℕ → ℕ
-count test zero = 0
-count test (suc bound) = count test bound + cond (test bound) 1 0
-
 -- there are at most so many unwaived solutions and, in mode 1, exactly so many
 abbrev pub Counted : Draft → (ℕ → Bool) → List Cube → ℕ → Type 0
-Counted d S ws total = (count (unwaived S ws) (2 ^ d.arity.inputs) ≤ total) × (d.mode ≡ Separate → count (unwaived S ws) (2 ^ d.arity.inputs) ≡ total)
+Counted d S ws total = (count_below (unwaived S ws) (2 ^ d.arity.inputs) ≤ total) × (d.mode ≡ Separate → count_below (unwaived S ws) (2 ^ d.arity.inputs) ≡ total)
 
 -- ---- stories
 

@@ -16,8 +16,8 @@ impl Draft {
         ensures draft { result ≡ opened mode inputs }
         ensures stories { StoriesHold }
     {
-        let mode = Mode::numbered(mode).ok_or(ListingFault::Mode)?;
-        let arity = Arity::new(inputs).ok_or(ListingFault::InputCount)?;
+        let mode = Mode::try_from(mode)?;
+        let arity = Arity::try_from(inputs)?;
         Ok(Draft {
             arity,
             mode,
@@ -58,8 +58,5 @@ impl Draft {
 fn well_formed(cube: Cube, arity: Arity) -> bool
     ensures { result ≡ well_formed arity.inputs cube }
 {
-    if cube.value() & cube.care() != cube.value() {
-        return false;
-    }
-    cube.care() < 1 << arity.inputs
+    cube.value() & cube.care() == cube.value() && cube.care() < 1 << arity.inputs
 }

@@ -1,18 +1,16 @@
 // The lead: the smallest row of a decider's set that no barred entry holds.
 ghost use Rattle.std.specs.Prelude.{◌≡◌, ◌-◌, ◌*◌, ◌^◌, ◌<◌, ◌≤◌, true, if◌then◌else◌, None, nat_le};
 ghost use Rattle.cubes.specs.Cubes.{held};
-ghost use Rattle.cubes.specs.Deciders.{Answer};
+ghost use Rattle.cubes.specs.Deciders.{Answer, Kept};
 ghost use Rattle.listing.specs.Limits.{max_inputs};
 ghost use Rattle.listing.specs.Widest.{without, lead};
 
-use crate::opening::MAX_INPUTS;
-use cubes::{Cube, Decider, Entry, Row};
+use cubes::{Cube, Decider, Entry, MAX_INPUTS, Question, Row};
 
 // The smallest row of the decider's set that no barred entry holds. Nothing where it has more inputs than a cube can fix.
 pub fn smallest_row<D: Decider>(decider: &mut D, barred: &[Entry]) -> Option<Row>
     ensures value { result ≡ (if nat_le (D.Decider.arity decider.old) max_inputs then lead (D.Decider.arity decider.old) (without (D.Decider.rows decider.old) (held barred.now)) else None) }
-    ensures inputs_kept { D.Decider.arity decider.new ≡ D.Decider.arity decider.old }
-    ensures rows_kept { D.Decider.rows decider.new ≡ D.Decider.rows decider.old }
+    ensures kept { Kept D.Decider.arity D.Decider.rows decider.old decider.new }
 {
     let n = decider.inputs();
     if n > MAX_INPUTS {
@@ -26,12 +24,9 @@ pub(crate) fn find_lead<D: Decider>(decider: &mut D, n: u32, barred: &[Entry]) -
     requires limit { n ≤ max_inputs }
     requires same { D.Decider.arity decider.old ≡ n }
     ensures lead { result ≡ lead n (without (D.Decider.rows decider.old) (held barred.now)) }
-    ensures inputs_kept { D.Decider.arity decider.new ≡ D.Decider.arity decider.old }
-    ensures rows_kept { D.Decider.rows decider.new ≡ D.Decider.rows decider.old }
+    ensures kept { Kept D.Decider.arity D.Decider.rows decider.old decider.new }
 {
-    let Some(mut best) = probe(decider, n, n, 0, barred) else {
-        return None;
-    };
+    let mut best = probe(decider, n, n, 0, barred)?;
     for k in (0..n).rev() {
         let high = best >> k;
         if high % 2 == 1 {
@@ -50,9 +45,12 @@ fn probe<D: Decider>(decider: &mut D, n: u32, k: u32, high: u32, barred: &[Entry
     requires fits { high * 2 ^ k < 2 ^ n }
     requires same { D.Decider.arity decider.old ≡ n }
     ensures answer { Answer n (D.Decider.rows decider.old) (2 ^ n - 2 ^ k) (high * 2 ^ k) true barred.now result }
-    ensures inputs_kept { D.Decider.arity decider.new ≡ D.Decider.arity decider.old }
-    ensures rows_kept { D.Decider.rows decider.new ≡ D.Decider.rows decider.old }
+    ensures kept { Kept D.Decider.arity D.Decider.rows decider.old decider.new }
 {
     let care = (1u32 << n) - (1u32 << k);
-    decider.ask(Cube::low(care, high << k), true, barred)
+    decider.ask(Question {
+        cube: Cube::low(care, high << k),
+        wanted: true,
+        barred,
+    })
 }

@@ -1,32 +1,36 @@
 // The modes and the numbers of inputs that open takes.
 ghost use Rattle.std.specs.Prelude.{◌≡◌};
-ghost use Rattle.listing.specs.Calls.{mode_of, arity_of};
+ghost use Rattle.faults.specs.declared.listing.ListingFault.TheVariants.{Mode as ModeFault, InputCount};
+ghost use Rattle.listing.specs.Calls.{mode_of, arity_of, or_fault};
 
 use crate::arity::Arity;
 use crate::mode::Mode;
+use cubes::MAX_INPUTS;
+use faults::ListingFault;
 
-// The most inputs of a listing.
-pub const MAX_INPUTS: u32 = 30;
+impl TryFrom<u32> for Mode {
+    type Error = ListingFault;
 
-impl Mode {
-    pub(crate) fn numbered(number: u32) -> Option<Mode>
-        ensures { result ≡ mode_of number }
-    {
+    ghost try_from_gives = { λ number r. r ≡ or_fault (mode_of number) ModeFault };
+
+    fn try_from(number: u32) -> Result<Mode, ListingFault> {
         match number {
-            1 => Some(Mode::Separate),
-            2 => Some(Mode::Shared),
-            _ => None,
+            1 => Ok(Mode::Separate),
+            2 => Ok(Mode::Shared),
+            _ => Err(ListingFault::Mode),
         }
     }
 }
 
-impl Arity {
-    pub(crate) fn new(inputs: u32) -> Option<Arity>
-        ensures { result ≡ arity_of inputs }
-    {
+impl TryFrom<u32> for Arity {
+    type Error = ListingFault;
+
+    ghost try_from_gives = { λ inputs r. r ≡ or_fault (arity_of inputs) InputCount };
+
+    fn try_from(inputs: u32) -> Result<Arity, ListingFault> {
         if inputs < 1 || inputs > MAX_INPUTS {
-            return None;
+            return Err(ListingFault::InputCount);
         }
-        Some(Arity { inputs })
+        Ok(Arity { inputs })
     }
 }

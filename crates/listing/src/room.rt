@@ -5,14 +5,11 @@ ghost use Rattle.listing.specs.Calls.{room};
 use cubes::Entry;
 
 // The most entries that a listing uses.
-const MAX_ENTRIES: usize = 4096;
+pub const MAX_ENTRIES: usize = 4096;
 
 // Whether an entry is free behind those used, and fewer than the most are used.
 pub(crate) fn has_room(used: usize, register: &[Entry]) -> bool
     ensures { result ≡ room used register.now }
 {
-    if used >= register.len() {
-        return false;
-    }
-    used < MAX_ENTRIES
+    used < register.len() && used < MAX_ENTRIES
 }

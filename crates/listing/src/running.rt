@@ -1,5 +1,6 @@
 // The next cube, and reopening a running listing.
 ghost use Rattle.std.specs.Prelude.{◌≡◌, ◌<◌};
+ghost use Rattle.cubes.specs.Deciders.{Kept};
 ghost use Rattle.listing.specs.Limits.{max_entries};
 ghost use Rattle.listing.specs.Calls.{entries, one_more, nexted, reopened};
 
@@ -15,8 +16,7 @@ impl Running {
     // Lists the widest cube around the lead, or ends where no lead is left.
     pub fn next<D: Decider>(self, register: &mut [Entry], decider: &mut D) -> Result<Step, Refusal>
         ensures next { (result, register.new) ≡ nexted self (D.Decider.arity decider.old) (D.Decider.rows decider.old) register.old }
-        ensures inputs_kept { D.Decider.arity decider.new ≡ D.Decider.arity decider.old }
-        ensures rows_kept { D.Decider.rows decider.new ≡ D.Decider.rows decider.old }
+        ensures kept { Kept D.Decider.arity D.Decider.rows decider.old decider.new }
     {
         let held = self.held();
         if register.len() < held {

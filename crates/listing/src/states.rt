@@ -1,4 +1,6 @@
 // A listing in its three states. None can be copied, and only the calls make one.
+ghost use Rattle.std.specs.Prelude.{◌≡◌};
+
 use crate::arity::Arity;
 use crate::mode::Mode;
 use faults::ListingFault;
@@ -24,7 +26,7 @@ pub struct Finished {
     pub(crate) listing: Running,
 }
 
-// What one next gives: a listing with one more cube, or the finished one.
+// What one next gives: a listing with one more cube, or the finished one. Both are what was asked for, so it is no Result.
 #[derive(Drop)]
 pub enum Step {
     Listed(Running),
@@ -36,4 +38,13 @@ pub enum Step {
 pub struct Refusal {
     pub listing: Running,
     pub fault: ListingFault,
+}
+
+// The fault alone, where the listing is given up.
+impl From<Refusal> for ListingFault {
+    ghost from_gives = { λ refusal fault. fault ≡ refusal.fault };
+
+    fn from(refusal: Refusal) -> ListingFault {
+        refusal.fault
+    }
 }

@@ -1,18 +1,18 @@
 // The widest cube around a row: inputs 1 to n in turn, opened wherever the cube stays good.
 ghost use Rattle.std.specs.Prelude.{◌≡◌, ◌^◌, ◌<◌, ◌≤◌, bit_and};
 ghost use Rattle.cubes.specs.Cubes.{held};
+ghost use Rattle.cubes.specs.Deciders.{Kept};
 ghost use Rattle.listing.specs.Limits.{max_inputs};
 ghost use Rattle.listing.specs.Widest.{without, good, widest};
 
-use cubes::{Cube, Decider, Entry, Row, touches};
+use cubes::{Cube, Decider, Entry, Question, Row, touches};
 
 pub(crate) fn widen<D: Decider>(decider: &mut D, n: u32, row: Row, shut: &[Entry]) -> Cube
     requires limit { n ≤ max_inputs }
     requires same { D.Decider.arity decider.old ≡ n }
     ensures care { result.care ≡ widest n (without (D.Decider.rows decider.old) (held shut.now)) row }
     ensures value { result.value ≡ bit_and row result.care }
-    ensures inputs_kept { D.Decider.arity decider.new ≡ D.Decider.arity decider.old }
-    ensures rows_kept { D.Decider.rows decider.new ≡ D.Decider.rows decider.old }
+    ensures kept { Kept D.Decider.arity D.Decider.rows decider.old decider.new }
 {
     let mut care = (1u32 << n) - 1;
     for k in (0..n).rev() {
@@ -29,14 +29,15 @@ fn is_good<D: Decider>(decider: &mut D, n: u32, cube: Cube, shut: &[Entry]) -> b
     requires limit { n ≤ max_inputs }
     requires same { D.Decider.arity decider.old ≡ n }
     ensures good { result ≡ good n (without (D.Decider.rows decider.old) (held shut.now)) cube.care cube.value }
-    ensures inputs_kept { D.Decider.arity decider.new ≡ D.Decider.arity decider.old }
-    ensures rows_kept { D.Decider.rows decider.new ≡ D.Decider.rows decider.old }
+    ensures kept { Kept D.Decider.arity D.Decider.rows decider.old decider.new }
 {
-    if let Some(_) = touches(cube, shut, n) {
+    if touches(cube, shut, n).is_some() {
         return false;
     }
-    match decider.ask(cube, false, &[]) {
-        Some(_) => false,
-        None => true,
-    }
+    let spoilt = decider.ask(Question {
+        cube,
+        wanted: false,
+        barred: &[],
+    });
+    spoilt.is_none()
 }

@@ -1,5 +1,6 @@
-use Rattle.std.proofs.Common.{◌≡◌, ℕ, ◌-◌, ◌/◌, ◌^◌, ◌≤◌, sym, refl, ap, ◌∙◌, arith}
+use Rattle.std.proofs.Common.{◌≡◌, ℕ, ◌-◌, ◌/◌, ◌^◌, ◌≤◌, sym, ap, ◌∙◌, arith}
 use native.Mathlib.Nat.{div-eq_of_lt}
+use Rattle.cubes.proofs.Questions.{kept_still, kept_on}
 use Rattle.listing.proofs.Asked.{lead_none, lead_some, probe_none, probe_some, halved, lower_fits}
 use Rattle.listing.proofs.leading.find_lead.Goals as goal
 
@@ -7,20 +8,18 @@ use Rattle.listing.proofs.leading.find_lead.Goals as goal
 last : (k x : ℕ) → k ≤ 0 → x / 2 ^ k ≡ x
 last k x h = let e : k ≡ 0 = omega arith in ap (λ (j : ℕ). x / 2 ^ j) e ∙ omega arith
 
-pub returns-in_default : goal.returns-in_default
-returns-in_default g c =
+pub returns-in_err-best : goal.returns-in_err-best
+returns-in_err-best g c =
     record {
-      lead = sym (lead_none _ _ _ (λ row f. probe_none _ _ _ _ _ (omega arith) c.in_default.ensures.answer row f (div-eq_of_lt f.below)));
-      inputs_kept = c.probe.ensures.inputs_kept;
-      rows_kept = c.probe.ensures.rows_kept;
+      lead = c.from_residual.ensures ∙ sym (lead_none _ _ _ (λ row f. probe_none _ _ _ _ _ (omega arith) c.in_err-best.ensures.answer row f (div-eq_of_lt f.below)));
+      kept = c.probe.ensures.kept;
     }
 
 pub loop-k-init : goal.loop-k-init
 loop-k-init g c =
-    let p = probe_some _ _ _ _ _ _ (omega arith) c.in-Some.ensures.answer in
-    let same = c.probe.ensures.rows_kept in (
-      refl,
-      refl,
+    let p = probe_some _ _ _ _ _ _ (omega arith) c.in_ok-best.ensures.answer in
+    let same = c.probe.ensures.kept.rows in (
+      kept_still _ _ _,
       rw same p.0,
       λ row f. let a = div-eq_of_lt p.0.below in let b = div-eq_of_lt f.below in omega arith,
     )
@@ -30,51 +29,46 @@ probe-requires-then-high-eq1 g c =
     record {
       limit = c.requires.limit;
       place = omega arith;
-      fits = lower_fits c.loop-k.best (c.loop-k.k - 1) c.args.n c.loop-k.invariant.2.below;
-      same = c.loop-k.invariant.0 ∙ c.probe.ensures.inputs_kept ∙ c.requires.same;
+      fits = lower_fits c.loop-k.best (c.loop-k.k - 1) c.args.n c.loop-k.invariant.1.below;
+      same = c.loop-k.invariant.0.inputs ∙ c.probe.ensures.kept.inputs ∙ c.requires.same;
     }
 
-pub loop-k-preserved-in-Some-probe : goal.loop-k-preserved-in-Some-probe
-loop-k-preserved-in-Some-probe g c =
-    let same = c.loop-k.invariant.1 in
-    let p = probe_some c.args.n (g.D.Decider.rows c.loop-k.decider) c.args.barred.now (c.loop-k.k - 1) (c.loop-k.best / 2 ^ (c.loop-k.k - 1) - 1) c.in-Some-probe.row (omega arith) c.in-Some-probe.ensures.answer in (
-      c.probe-then-high-eq1.ensures.inputs_kept ∙ c.loop-k.invariant.0,
-      c.probe-then-high-eq1.ensures.rows_kept ∙ same,
-      rw (← same) p.0,
+pub loop-k-preserved-in-Some : goal.loop-k-preserved-in-Some
+loop-k-preserved-in-Some g c =
+    let i = c.loop-k.invariant in
+    let p = probe_some c.args.n (g.D.Decider.rows c.loop-k.decider) c.args.barred.now (c.loop-k.k - 1) (c.loop-k.best / 2 ^ (c.loop-k.k - 1) - 1) c.in-Some.row (omega arith) c.in-Some.ensures.answer in (
+      kept_on _ _ _ _ _ i.0 c.probe-then-high-eq1.ensures.kept,
+      rw (← i.0.rows) p.0,
       λ row f.
-          let h = halved c.loop-k.best row c.loop-k.k c.loop-k-test.true (c.loop-k.invariant.3 row f) in
+          let h = halved c.loop-k.best row c.loop-k.k c.loop-k-test.true (i.2 row f) in
           let e = p.1 in
           omega arith,
     )
 
-pub loop-k-preserved-in_default-probe : goal.loop-k-preserved-in_default-probe
-loop-k-preserved-in_default-probe g c =
-    let same = c.loop-k.invariant.1 in (
-      c.probe-then-high-eq1.ensures.inputs_kept ∙ c.loop-k.invariant.0,
-      c.probe-then-high-eq1.ensures.rows_kept ∙ same,
-      c.loop-k.invariant.2,
+pub loop-k-preserved-in_default : goal.loop-k-preserved-in_default
+loop-k-preserved-in_default g c =
+    let i = c.loop-k.invariant in (
+      kept_on _ _ _ _ _ i.0 c.probe-then-high-eq1.ensures.kept,
+      i.1,
       λ row f.
-          let h = halved c.loop-k.best row c.loop-k.k c.loop-k-test.true (c.loop-k.invariant.3 row f) in
-          let e = probe_none _ _ _ _ _ (omega arith) c.in_default-probe.ensures.answer row (rw same f) in
+          let h = halved c.loop-k.best row c.loop-k.k c.loop-k-test.true (i.2 row f) in
+          let e = probe_none _ _ _ _ _ (omega arith) c.in_default.ensures.answer row (rw i.0.rows f) in
           omega arith,
     )
 
 pub loop-k-preserved : goal.loop-k-preserved
-loop-k-preserved g c = (
-  c.loop-k.invariant.0,
-  c.loop-k.invariant.1,
-  c.loop-k.invariant.2,
-  λ row f.
-      let h = halved c.loop-k.best row c.loop-k.k c.loop-k-test.true (c.loop-k.invariant.3 row f) in
-      omega arith,
-)
+loop-k-preserved g c =
+    let i = c.loop-k.invariant in (
+      i.0,
+      i.1,
+      λ row f. let h = halved c.loop-k.best row c.loop-k.k c.loop-k-test.true (i.2 row f) in omega arith,
+    )
 
 pub returns : goal.returns
 returns g c =
     let i = c.loop-k.invariant in
-    let same = c.probe.ensures.rows_kept in
+    let same = c.probe.ensures.kept.rows in
     record {
-      lead = sym (lead_some _ _ _ c.loop-k.best (rw same at i.2) (λ row f. let h = i.3 row (rw same f) in omega (arith, last c.loop-k.k c.loop-k.best (omega arith), last c.loop-k.k row (omega arith))));
-      inputs_kept = i.0 ∙ c.probe.ensures.inputs_kept;
-      rows_kept = i.1 ∙ same;
+      lead = sym (lead_some _ _ _ c.loop-k.best (rw same at i.1) (λ row f. let h = i.2 row (rw same f) in omega (arith, last c.loop-k.k c.loop-k.best (omega arith), last c.loop-k.k row (omega arith))));
+      kept = kept_on _ _ _ _ _ c.probe.ensures.kept i.0;
     }

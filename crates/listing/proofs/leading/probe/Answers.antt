@@ -22,6 +22,5 @@ returns g c =
     let value : c.low.result.value ≡ c.args.high * 2 ^ c.args.k = c.low.ensures.value ∙ omega arith in
     record {
       answer = rw (care, value, c.requires.same) at c.ask.ensures.answer;
-      inputs_kept = c.ask.ensures.inputs_kept;
-      rows_kept = c.ask.ensures.rows_kept;
+      kept = c.ask.ensures.kept;
     }

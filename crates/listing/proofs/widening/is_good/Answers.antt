@@ -1,24 +1,19 @@
-use Rattle.std.proofs.Common.{sym, refl}
-use Rattle.listing.proofs.Asked.{good_touch, good_asked, good_so}
+use Rattle.std.proofs.Common.{not, sym, ap, ◌∙◌}
+use Rattle.std.proofs.Math.Bool.{not-not}
+use Rattle.cubes.proofs.Questions.{kept_still}
+use Rattle.listing.proofs.Asked.{good_touched, good_told}
 use Rattle.listing.proofs.widening.is_good.Goals as goal
 
-pub returns-in-Some : goal.returns-in-Some
-returns-in-Some g c =
-    let t = c.in-Some.ensures in
-    record { good = sym (good_touch _ _ _ _ _ _ t.0 t.1); inputs_kept = refl {a = g.D.Decider.arity c.args.decider.now}; rows_kept = refl {a = g.D.Decider.rows c.args.decider.now} }
-
-pub returns-in-Some-ask : goal.returns-in-Some-ask
-returns-in-Some-ask g c =
+pub returns-then-is_some : goal.returns-then-is_some
+returns-then-is_some g c =
     record {
-      good = sym (good_asked _ _ _ _ _ _ (rw c.requires.same at c.in-Some-ask.ensures.answer));
-      inputs_kept = c.ask.ensures.inputs_kept;
-      rows_kept = c.ask.ensures.rows_kept;
+      good = sym (good_touched _ _ _ _ _ c.touches.result c.touches.ensures c.if-is_some.ensures);
+      kept = kept_still _ _ _;
     }
 
-pub returns-in-None : goal.returns-in-None
-returns-in-None g c =
+pub returns : goal.returns
+returns g c =
     record {
-      good = sym (good_so _ _ _ _ _ c.in_default.ensures (rw c.requires.same at c.in-None.ensures.answer));
-      inputs_kept = c.ask.ensures.inputs_kept;
-      rows_kept = c.ask.ensures.rows_kept;
+      good = sym (ap not c.is_none.ensures ∙ not-not c.is_none.result) ∙ good_told _ _ _ _ _ c.touches.result _ c.touches.ensures c.if-is_some.ensures (rw c.requires.same at c.ask-spoilt.ensures.answer);
+      kept = c.ask-spoilt.ensures.kept;
     }

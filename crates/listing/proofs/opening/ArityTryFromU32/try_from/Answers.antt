@@ -4,8 +4,9 @@ use native.Mathlib.Bridge.{le_prop}
 use native.Mathlib.Decide.{dec_le}
 use Rattle.listing.specs.declared.arity.Arity.{Arity}
 use Rattle.listing.specs.Limits.{max_inputs}
-use Rattle.listing.specs.Calls.{arity_of}
-use Rattle.listing.proofs.arity.Arity.new.Goals as goal
+use Rattle.faults.specs.declared.listing.ListingFault.TheVariants.{InputCount}
+use Rattle.listing.specs.Calls.{arity_of, or_fault}
+use Rattle.listing.proofs.opening.ArityTryFromU32.try_from.Goals as goal
 
 -- whichever proof of the limits the struct has
 within_limits_lem : (n : ℕ) (limits : (1 ≤ n) × (n ≤ max_inputs)) → Some (record { inputs = n; limits = limits }) ≡ arity_of n
@@ -18,4 +19,4 @@ within_limits_lem n limits = go (dec_le 1 n) (dec_le n max_inputs)
     go (no f) y = absurd (f limits.0)
 
 pub returns : goal.returns
-returns c = within_limits_lem c.args.inputs _
+returns c = ap (λ o. or_fault o InputCount) (within_limits_lem c.args.inputs _)
