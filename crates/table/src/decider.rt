@@ -8,7 +8,7 @@ ghost use Rattle.table.specs.Tables.{table_answer, filled, rows_of};
 use crate::making::{fill, room};
 use crate::question::first;
 use circuit::{Circuit, Word};
-use cubes::{Cube, Decider, Entry, Row};
+use cubes::{Decider, Question, Row};
 use faults::TableFault;
 
 // Its number of inputs and the bits of its rows; 0 inputs, and so no rows, where its making was refused.
@@ -58,10 +58,10 @@ impl<'a> Decider for Table<'a> {
         self.inputs
     }
 
-    fn ask(&mut self, cube: Cube, wanted: bool, barred: &[Entry]) -> Option<Row> {
+    fn ask(&mut self, question: Question) -> Option<Row> {
         if self.inputs == 0 {
-            return first(0, &[0], cube, wanted, barred);
+            return first(0, &[0], question);
         }
-        first(self.inputs, self.bits, cube, wanted, barred)
+        first(self.inputs, self.bits, question)
     }
 }

@@ -4,21 +4,18 @@ ghost use Rattle.circuit.specs.Limits.{max_table_inputs};
 ghost use Rattle.circuit.specs.Kinds.{bit_at, same};
 ghost use Rattle.circuit.specs.Lanes.{Lanes, words};
 ghost use Rattle.cubes.specs.Cubes.{within, held};
-ghost use Rattle.cubes.specs.Deciders.{Answer};
+ghost use Rattle.cubes.specs.Questions.{Answered};
 ghost use Rattle.table.specs.Tables.{fits, table_rows};
 
 use crate::lanes::{LANES, mask};
 use circuit::used_lanes;
-use cubes::{Cube, Entry, Row};
+use cubes::{Cube, Entry, Question, Row};
 
 // The lanes of a word that have the wanted bit.
 fn of_kind(word: u32, wanted: bool) -> u32
     ensures { Lanes result (λ b. same wanted (bit_at word b)) }
 {
-    if wanted {
-        return word;
-    }
-    !word
+    if wanted { word } else { !word }
 }
 
 // Of the lanes of word w those that no barred entry holds.
@@ -36,15 +33,12 @@ fn free(barred: &[Entry], w: u32, start: u32) -> u32
 }
 
 // The lanes of word w that fit the question.
-fn candidates(n: u32, word: u32, w: u32, cube: Cube, wanted: bool, barred: &[Entry]) -> u32
+fn candidates(n: u32, word: u32, w: u32, question: Question) -> u32
     requires { w < words n }
-    ensures { Lanes result (λ b. fits n (bit_at word b) cube.care cube.value wanted barred.now (32 * w + b)) }
+    ensures { Lanes result (λ b. fits n (bit_at word b) question.entry.cube.care question.entry.cube.value question.entry.wanted question.entry.barred.now (32 * w + b)) }
 {
-    free(
-        barred,
-        w,
-        of_kind(word, wanted) & used_lanes(n) & mask(cube, w),
-    )
+    let asked = of_kind(word, question.wanted) & used_lanes(n) & mask(question.cube, w);
+    free(question.barred, w, asked)
 }
 
 // The word after the last that may have rows of the cube. Such a row is at most the cube's value with each open input 1.
@@ -62,13 +56,14 @@ fn end_word(n: u32, cube: Cube) -> u32
 }
 
 // The first row that fits, from the word of the cube's value on: no row of the cube is below it.
-pub fn first(n: u32, bits: &[u32], cube: Cube, wanted: bool, barred: &[Entry]) -> Option<Row>
+pub fn first(n: u32, bits: &[u32], question: Question) -> Option<Row>
     requires limit { n ≤ max_table_inputs }
     requires room { words n ≤ length bits.now }
-    ensures { Answer n (table_rows bits.now) cube.care cube.value wanted barred.now result }
+    ensures { Answered n (table_rows bits.now) question.entry result }
 {
+    let cube = question.cube;
     for w in cube.value() / LANES..end_word(n, cube) {
-        let left = candidates(n, bits[w as usize], w, cube, wanted, barred);
+        let left = candidates(n, bits[w as usize], w, question);
         if left != 0 {
             return Some(LANES * w + left.trailing_zeros());
         }

@@ -11,7 +11,7 @@ returns c = λ b l.
     let used = c.used_lanes.result in
     let inside = c.mask.result in
     c.free.ensures b l
-    ∙ ap (λ x. x && not (held c.args.barred.now (32 * c.args.w + b)))
+    ∙ ap (λ x. x && not (held c.args.question.barred.now (32 * c.args.w + b)))
     (and_bit (bit_and kind used) inside b
     ∙ ap₂ ◌&&◌
     (and_bit kind used b ∙ ap₂ ◌&&◌ (c.of_kind.ensures b l) (c.used_lanes.ensures b l ∙ used_row c.args.n c.args.w b c.requires l))

@@ -3,7 +3,7 @@ use Rattle.table.proofs.Questions.{lowest_fits, none_fits, next_word, within_lea
 use Rattle.table.proofs.question.first.Goals as goal
 
 pub loop-w-init : goal.loop-w-init
-loop-w-init c = λ row lt f. omega (arith, within_least c.args.cube.care c.args.cube.value row f.inside)
+loop-w-init c = λ row lt f. omega (arith, within_least c.args.question.cube.care c.args.question.cube.value row f.inside)
 
 pub loop-w-preserved : goal.loop-w-preserved
 loop-w-preserved c =

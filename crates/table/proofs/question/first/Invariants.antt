@@ -5,4 +5,4 @@ use Rattle.table.proofs.question.first.Given as goal
 
 -- no row of the words so far fits
 abbrev pub invariant-loop-w : goal.invariant-loop-w
-invariant-loop-w l = (row : ℕ) → row < 32 * l.w → Fitting l.n (table_rows l.bits) l.cube.care l.cube.value l.wanted l.barred row → ⊥
+invariant-loop-w l = (row : ℕ) → row < 32 * l.w → Fitting l.n (table_rows l.bits) l.question.cube.care l.question.cube.value l.question.wanted l.question.barred.now row → ⊥

@@ -1,4 +1,5 @@
 use Rattle.std.proofs.Common.{◌≡◌, ℕ, ◌%◌, ◌^◌, ◌<◌, ◌&&◌, sym, refl, ap, ◌∙◌, mod-eq_of_lt, arith, lt-ltb}
+use Rattle.cubes.proofs.Questions.{kept_still}
 use Rattle.table.specs.Tables.{table_rows, rows_of}
 use Rattle.table.proofs.Questions.{answer_like}
 use Rattle.table.proofs.decider.TableDecider.ask.Goals as goal
@@ -12,6 +13,5 @@ returns c =
     λ row l. sym (ap (λ t. t && table_rows ws (row % 2 ^ n)) (lt-ltb 0 n some) ∙ ap (table_rows ws) (mod-eq_of_lt l)) in
     record {
       answer = answer_like n (table_rows ws) (rows_of n ws) _ _ _ _ same c.first-2.result c.first-2.ensures;
-      inputs_kept = refl;
-      rows_kept = refl;
+      kept = kept_still _ _ _;
     }
