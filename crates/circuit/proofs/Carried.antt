@@ -2,7 +2,7 @@
 use Rattle.std.proofs.Common.{◌≡◌, ℕ, zero, suc, ◌+◌, ◌-◌, ◌/◌, ◌%◌, ◌<◌, Bool, true, false, cond, not, ◌&&◌, eqb, List, [], ◌∷◌, ◌++◌, length, get_or, take, drop, sym, ap, ◌∙◌, subst, add_comm, arith}
 use Rattle.std.proofs.lemmas.List.{get_or-take, get_or-drop, length-take, length-drop}
 use Rattle.circuit.specs.Kinds.{Ops, bit_at}
-use Rattle.circuit.specs.Circuits.{bits, literal, grown}
+use Rattle.circuit.specs.Circuits.{Netlist, bits, literal, grown}
 use Rattle.circuit.specs.Solutions.{input_bits, solves}
 use Rattle.circuit.specs.Answers.{output_of}
 use Rattle.circuit.proofs.Rows.{length_per, at_per}
@@ -50,9 +50,10 @@ module _ {X : Type 0} (o : Ops X) (R : X → Bool → Type 0) (nothing : R o.fal
       along_grown gates _ _ (along_push xs bs _ _ a (joins _ _ _ _ (along_literal xs bs r a) (along_literal xs bs s a)))
 
   -- bit k of the row goes with input n - k
-  pub carried : (n out : ℕ) (gates : List ℕ) (vs : List X) (row : ℕ) → n < length vs
-      → ((k : ℕ) → k < n → R (get_or vs (n - k) o.falsity) (bit_at row k)) → R (output_of o n out gates vs) (solves n out gates row)
-  carried n out gates vs row h a =
+  pub carried : (c : Netlist) (vs : List X) (row : ℕ) → c.inputs < length vs
+      → ((k : ℕ) → k < c.inputs → R (get_or vs (c.inputs - k) o.falsity) (bit_at row k)) → R (output_of o c vs) (solves c row)
+  carried c vs row h a =
+      let n = c.inputs in
       let front = take n (drop 1 vs) in
       let bs = input_bits n row in
       let many : length bs ≡ n = length_per (bit_at row) n in
@@ -64,4 +65,4 @@ module _ {X : Type 0} (o : Ops X) (R : X → Bool → Type 0) (nothing : R o.fal
       let at : n - (n - 1 - i) ≡ i + 1 = omega arith in
       subst (λ v. R v (get_or bs i false)) (ap (λ j. get_or vs j o.falsity) at ∙ value i lt)
       (subst (λ b. R (get_or vs (n - (n - 1 - i)) o.falsity) b) (sym (at_per (bit_at row) false n i lt)) (a (n - 1 - i) (omega arith))) in
-      along_literal _ _ out (along_grown gates (o.falsity ∷ front) (false ∷ bs) (nothing, along_places front bs (simp (length-take, length-drop) (omega arith)) place))
+      along_literal _ _ c.output (along_grown c.gates (o.falsity ∷ front) (false ∷ bs) (nothing, along_places front bs (simp (length-take, length-drop) (omega arith)) place))

@@ -2,7 +2,7 @@
 use Rattle.std.proofs.Common.{◌≡◌, ℕ, zero, suc, ◌+◌, ◌*◌, ◌/◌, ◌<◌, List, [], ◌∷◌, ◌++◌, length, get_or, sym, refl, ap, ◌∙◌, subst, ap₂, arith}
 use Rattle.std.proofs.lemmas.List.{get_or_append_left, length-append}
 use Rattle.circuit.specs.Kinds.{Ops}
-use Rattle.circuit.specs.Circuits.{either, literal, grown, variables}
+use Rattle.circuit.specs.Circuits.{Netlist, either, literal, grown, variables}
 use Rattle.circuit.specs.Answers.{Consistent}
 use Rattle.circuit.proofs.Gates.{length_grown}
 
@@ -50,10 +50,12 @@ module _ {X : Type 0} (o : Ops X) where
   front_at : (xs ys : List X) (l : ℕ) → l / 2 < length xs → literal o xs l ≡ literal o (xs ++ ys) l
   front_at xs ys l h = ap (λ v. either o v l) (sym (get_or_append_left xs ys o.falsity (l / 2) h))
 
-  pub consistent : (n output : ℕ) (gates : List ℕ) (held rest vs : List X) (v : X) → length held ≡ n
-      → ((j : ℕ) → j < length gates → get_or gates j 0 < 2 * (n + 1 + j / 2))
-      → vs ≡ variables o gates held ++ rest → v ≡ literal o vs output → Consistent o n output gates vs v
-  consistent n output gates held rest vs v e b is out =
+  pub consistent : (c : Netlist) (held rest vs : List X) (v : X) → length held ≡ c.inputs
+      → ((j : ℕ) → j < length c.gates → get_or c.gates j 0 < 2 * (c.inputs + 1 + j / 2))
+      → vs ≡ variables o c.gates held ++ rest → v ≡ literal o vs c.output → Consistent o c vs v
+  consistent c held rest vs v e b is out =
+      let n = c.inputs in
+      let gates = c.gates in
       let xs = variables o gates held in
       let start : length (o.falsity ∷ held) ≡ n + 1 = omega arith in
       let long = length_grown o gates (o.falsity ∷ held) in
@@ -64,9 +66,9 @@ module _ {X : Type 0} (o : Ops X) where
       ∙ grown_gate gates (o.falsity ∷ held) k (omega arith) (λ j h. omega (arith, b j h))
       ∙ ap₂ o.both (front_at xs rest (get_or gates (2 * k) 0) (omega (arith, b (2 * k) (omega arith))))
       (front_at xs rest (get_or gates (2 * k + 1) 0) (omega (arith, b (2 * k + 1) (omega arith)))) in
-      subst (λ ws. Consistent o n output gates ws v) (sym is)
+      subst (λ ws. Consistent o c ws v) (sym is)
       (record {
         place0 = get_or_append_left xs rest o.falsity 0 (omega arith) ∙ grown_front gates (o.falsity ∷ held) 0 (omega arith);
         gate = gate;
-        out = out ∙ ap (λ ws. literal o ws output) is;
+        out = out ∙ ap (λ ws. literal o ws c.output) is;
       })

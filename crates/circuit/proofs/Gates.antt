@@ -3,7 +3,7 @@ use Rattle.std.proofs.Common.{◌≡◌, ℕ, ◌+◌, ◌-◌, ◌*◌, ◌/◌
 use borrow.Rule.Slice.PartMut.{put_mid, post_of}
 use Rattle.std.proofs.lemmas.List.{get_or-take, get_or_append_left, length-append, length-take, take_more_set, drop_more, take_rest, drop-set-add, take-set-le, drop-set-lt, drop_all, length-drop}
 use Rattle.circuit.specs.Kinds.{Ops}
-use Rattle.circuit.specs.Circuits.{either, literal, grown, variables}
+use Rattle.circuit.specs.Circuits.{Netlist, highest, either, literal, grown, variables}
 use Rattle.circuit.specs.Answers.{table_with, output_of}
 
 -- a write into the part from `first` on
@@ -42,13 +42,15 @@ module _ {X : Type 0} (o : Ops X) where
   from_one n (v ∷ vs) z h e = ap (λ j. take j (z ∷ vs)) (add-one n) ∙ ap (λ y. y ∷ take n vs) e
 
   -- what the evaluator leaves in the value table
-  pub table_is : (n : ℕ) (gates : List ℕ) (vs last : List X) (z : X) → z ≡ o.falsity → n + length gates / 2 < length vs
-      → last ≡ grown o gates (take (n + 1) (set vs 0 z)) ++ drop (n + 1 + length gates / 2) (set vs 0 z) → last ≡ table_with o n gates (take n (drop 1 vs)) vs
-  table_is n gates vs last z e h is =
-      is ∙ (λ i. grown o gates (from_one n vs z (omega arith) e i) ++ drop-set-lt (n + 1 + length gates / 2) vs 0 z (omega arith) i)
+  pub table_is : (c : Netlist) (vs last : List X) (z : X) → z ≡ o.falsity → highest c < length vs
+      → last ≡ grown o c.gates (take (c.inputs + 1) (set vs 0 z)) ++ drop (c.inputs + 1 + length c.gates / 2) (set vs 0 z)
+      → last ≡ table_with o c (take c.inputs (drop 1 vs)) vs
+  table_is c vs last z e h is =
+      is ∙ (λ i. grown o c.gates (from_one c.inputs vs z (omega arith) e i) ++ drop-set-lt (c.inputs + 1 + length c.gates / 2) vs 0 z (omega arith) i)
 
-  pub output_is : (n : ℕ) (gates : List ℕ) (vs : List X) (out : ℕ) → n + length gates / 2 < length vs → out / 2 < n + 1 + length gates / 2
-      → literal o (table_with o n gates (take n (drop 1 vs)) vs) out ≡ output_of o n out gates vs
-  output_is n gates vs out h l =
-      let long : length (variables o gates (take n (drop 1 vs))) ≡ n + 1 + length gates / 2 = length_grown gates _ ∙ simp (length-take, length-drop) (omega arith) in
-      ap (λ v. either o v out) (get_or_append_left _ _ o.falsity (out / 2) (omega arith))
+  pub output_is : (c : Netlist) (vs : List X) → highest c < length vs → c.output / 2 < c.inputs + 1 + length c.gates / 2
+      → literal o (table_with o c (take c.inputs (drop 1 vs)) vs) c.output ≡ output_of o c vs
+  output_is c vs h l =
+      let long : length (variables o c.gates (take c.inputs (drop 1 vs))) ≡ c.inputs + 1 + length c.gates / 2 =
+      length_grown c.gates _ ∙ simp (length-take, length-drop) (omega arith) in
+      ap (λ v. either o v c.output) (get_or_append_left _ _ o.falsity (c.output / 2) (omega arith))

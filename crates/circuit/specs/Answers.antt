@@ -5,47 +5,46 @@ use Rattle.std.specs.Prelude.{◌≡◌, ℕ, ◌+◌, ◌-◌, ◌*◌, ◌/◌
 use Rattle.faults.specs.declared.table.TableFault.{TableFault}
 use Rattle.faults.specs.declared.table.TableFault.TheVariants.{ValuesShort}
 use Rattle.circuit.specs.Kinds.{Ops, Settled, bit_at}
-use Rattle.circuit.specs.Circuits.{highest, literal, variables}
+use Rattle.circuit.specs.Circuits.{Netlist, highest, literal, variables}
 use Rattle.circuit.specs.Solutions.{solves}
 
 -- where the value table has a place for each variable the answer, else the refusal
-abbrev pub with_room : {X : Type 0} → ℕ → List ℕ → ℕ → X → Result X TableFault
-with_room inputs gates places x = cond (nat_lt (highest inputs gates) places) (Ok x) (Err (ValuesShort (highest inputs gates + 1)))
+abbrev pub with_room : {X : Type 0} → Netlist → ℕ → X → Result X TableFault
+with_room c places x = cond (nat_lt (highest c) places) (Ok x) (Err (ValuesShort (highest c + 1)))
 
 -- the output's value, where the inputs' places of the table have theirs
-abbrev pub output_of : {X : Type 0} → Ops X → ℕ → ℕ → List ℕ → List X → X
-output_of o inputs output gates vs = literal o (variables o gates (take inputs (drop 1 vs))) output
+abbrev pub output_of : {X : Type 0} → Ops X → Netlist → List X → X
+output_of o c vs = literal o (variables o c.gates (take c.inputs (drop 1 vs))) c.output
 
-abbrev pub evaluated : {X : Type 0} → Ops X → ℕ → ℕ → List ℕ → List X → Result X TableFault
-evaluated o inputs output gates vs = with_room inputs gates (length vs) (output_of o inputs output gates vs)
+abbrev pub evaluated : {X : Type 0} → Ops X → Netlist → List X → Result X TableFault
+evaluated o c vs = with_room c (length vs) (output_of o c vs)
 
 -- the value table after the inputs held these values: every variable's value, and what lies beyond as it was
-abbrev pub table_with : {X : Type 0} → Ops X → ℕ → List ℕ → List X → List X → List X
-table_with o inputs gates held vs = variables o gates held ++ drop (inputs + 1 + length gates / 2) vs
+abbrev pub table_with : {X : Type 0} → Ops X → Netlist → List X → List X → List X
+table_with o c held vs = variables o c.gates held ++ drop (c.inputs + 1 + length c.gates / 2) vs
 
 -- the same, or the table as it was where it is refused
-abbrev pub after_with : {X : Type 0} → Ops X → ℕ → List ℕ → List X → List X → List X
-after_with o inputs gates held vs = cond (nat_lt (highest inputs gates) (length vs)) (table_with o inputs gates held vs) vs
+abbrev pub after_with : {X : Type 0} → Ops X → Netlist → List X → List X → List X
+after_with o c held vs = cond (nat_lt (highest c) (length vs)) (table_with o c held vs) vs
 
 -- the value table after the evaluation
-abbrev pub table_after : {X : Type 0} → Ops X → ℕ → List ℕ → List X → List X
-table_after o inputs gates vs = after_with o inputs gates (take inputs (drop 1 vs)) vs
+abbrev pub table_after : {X : Type 0} → Ops X → Netlist → List X → List X
+table_after o c vs = after_with o c (take c.inputs (drop 1 vs)) vs
 
 -- the value table and the output by what they have to do with each other
-pub record Consistent {X : Type 0} (o : Ops X) (inputs output : ℕ) (gates : List ℕ) (vs : List X) (v : X) : Type 0 where
+pub record Consistent {X : Type 0} (o : Ops X) (c : Netlist) (vs : List X) (v : X) : Type 0 where
   pub place0 : get_or vs 0 o.falsity ≡ o.falsity
-  pub gate : (k : ℕ) → k < length gates / 2
-      → slice_index_or vs (inputs + 1 + k) o.falsity ≡ o.both (literal o vs (slice_index gates (2 * k))) (literal o vs (slice_index gates (2 * k + 1)))
-  pub out : v ≡ literal o vs output
+  pub gate : (k : ℕ) → k < length c.gates / 2
+      → slice_index_or vs (c.inputs + 1 + k) o.falsity ≡ o.both (literal o vs (slice_index c.gates (2 * k))) (literal o vs (slice_index c.gates (2 * k + 1)))
+  pub out : v ≡ literal o vs c.output
 
 -- in this lane the inputs' places allow the row's bits
 abbrev pub AllowsRow : {X : Type 0} → (X → ℕ → Bool → Bool) → X → ℕ → List X → ℕ → ℕ → Type 0
 AllowsRow allows falsity inputs vs lane row = (k : ℕ) → k < inputs → allows (slice_index_or vs (inputs - k) falsity) lane (bit_at row k) ≡ true
 
 -- the output allows the circuit's value wherever the inputs allow the row
-abbrev pub Sound : {X : Type 0} → ℕ → (X → ℕ → Bool → Bool) → Ops X → ℕ → ℕ → List ℕ → List X → X → Type 0
-Sound lanes allows o inputs output gates vs v =
-    (row lane : ℕ) → lane < lanes → AllowsRow allows o.falsity inputs vs lane row → allows v lane (solves inputs output gates row) ≡ true
+abbrev pub Sound : {X : Type 0} → ℕ → (X → ℕ → Bool → Bool) → Ops X → Netlist → List X → X → Type 0
+Sound lanes allows o c vs v = (row lane : ℕ) → lane < lanes → AllowsRow allows o.falsity c.inputs vs lane row → allows v lane (solves c row) ≡ true
 
 -- the output is settled wherever all inputs are
 abbrev pub Settles : {X : Type 0} → ℕ → (X → ℕ → Bool → Bool) → X → ℕ → List X → X → Type 0

@@ -3,15 +3,21 @@
 --   literal    2v is variable v and 2v + 1 its inverse
 --   gates      two words a gate: the literals whose AND it is
 --   own        a gate's own literal, twice its variable
+--   Netlist    a circuit's number of inputs, the literal of its output, and its gates
 -- Assumes nothing.
 use Rattle.std.specs.Prelude.{ℕ, ◌+◌, ◌*◌, ◌/◌, ◌%◌, Bool, true, false, cond, not, ◌&&◌, List, [], ◌∷◌, ◌++◌, length, take, ◌==◌, nat_le, nat_lt, slice_index_or}
 use Rattle.circuit.specs.declared.reading.Reading.{Reading}
 use Rattle.circuit.specs.Limits.{max_inputs, max_gates}
 use Rattle.circuit.specs.Kinds.{Ops}
 
+pub record Netlist : Type 0 where
+  pub inputs : ℕ
+  pub output : ℕ
+  pub gates : List ℕ
+
 -- the highest variable, M
-abbrev pub highest : ℕ → List ℕ → ℕ
-highest inputs gates = inputs + length gates / 2
+abbrev pub highest : Netlist → ℕ
+highest c = c.inputs + length c.gates / 2
 
 -- ---- the circuit of a reading and a gate table
 
@@ -25,9 +31,12 @@ within_limits r table =
     nat_le 1 r.inputs && (nat_le r.inputs max_inputs && (nat_le r.gates max_gates
     && (nat_le r.output (2 * (r.inputs + r.gates) + 1) && (nat_le (2 * r.gates) (length table) && ordered r.inputs 0 (take (2 * r.gates) table)))))
 
--- its inputs, output and gates: one input, output 0 and no gates where the limits are broken
-abbrev pub taken_up : Reading → List ℕ → (ℕ × ℕ × List ℕ)
-taken_up r table = cond (within_limits r table) (r.inputs, r.output, take (2 * r.gates) table) (1, 0, [])
+-- one input, output 0 and no gates where the limits are broken
+abbrev pub taken_up : Reading → List ℕ → Netlist
+taken_up r table =
+    cond (within_limits r table)
+    (record { inputs = r.inputs; output = r.output; gates = take (2 * r.gates) table })
+    (record { inputs = 1; output = 0; gates = [] })
 
 -- ---- what the variables hold
 

@@ -1,6 +1,7 @@
 pub mod Limits
 pub mod Kinds
 pub mod Circuits
+pub mod Netlists
 pub mod Solutions
 pub mod Answers
 pub mod Lanes

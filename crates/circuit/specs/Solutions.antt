@@ -3,7 +3,7 @@
 --   solution   a row on which the output is 1
 -- Assumes nothing.
 use Rattle.std.specs.Prelude.{ℕ, zero, suc, ◌+◌, ◌-◌, ◌%◌, ◌^◌, Bool, cond, List, [], ◌∷◌, ◌==◌}
-use Rattle.circuit.specs.Circuits.{bits, literal, variables}
+use Rattle.circuit.specs.Circuits.{Netlist, bits, literal, variables}
 use Rattle.circuit.specs.Kinds.{bit_at}
 
 -- one for each input, input 1 first, where each is told by its bit of the row
@@ -16,8 +16,8 @@ abbrev pub input_bits : ℕ → ℕ → List Bool
 input_bits inputs row = per_input (bit_at row) inputs
 
 -- the output is 1 on the row
-abbrev pub solves : ℕ → ℕ → List ℕ → ℕ → Bool
-solves inputs output gates row = literal bits (variables bits gates (input_bits inputs row)) output
+abbrev pub solves : Netlist → ℕ → Bool
+solves c row = literal bits (variables bits c.gates (input_bits c.inputs row)) c.output
 
 -- how many numbers below a bound pass a test
 unfoldable pub count_below : (ℕ → Bool) → ℕ → ℕ
@@ -25,9 +25,13 @@ count_below p zero = 0
 count_below p (suc k) = cond (p k) 1 0 + count_below p k
 
 -- how many rows are solutions
-abbrev pub solution_count : ℕ → ℕ → List ℕ → ℕ
-solution_count inputs output gates = count_below (solves inputs output gates) (2 ^ inputs)
+abbrev pub solution_count : Netlist → ℕ
+solution_count c = count_below (solves c) (2 ^ c.inputs)
 
 -- the literal of a literal's inverse
 abbrev pub inverted : ℕ → ℕ
 inverted l = cond (l % 2 == 1) (l - 1) (l + 1)
+
+-- the circuit whose output is the inverse
+abbrev pub negated : Netlist → Netlist
+negated c = record { inputs = c.inputs; output = inverted c.output; gates = c.gates }

@@ -2,6 +2,7 @@
 ghost use Rattle.std.specs.Prelude.{◌≡◌, ℕ, ◌+◌, ◌*◌, ◌/◌, ◌%◌, ◌<◌, ◌≤◌, ◌++◌, length, take, drop, IfOk, slice_index, slice_set};
 ghost use Rattle.circuit.specs.Limits.{max_gates};
 ghost use Rattle.circuit.specs.Circuits.{either, literal, grown};
+ghost use Rattle.circuit.specs.Netlists.{netlist};
 ghost use Rattle.circuit.specs.Answers.{evaluated, table_after, Consistent, Sound, Settles};
 
 use crate::{Circuit, Value};
@@ -47,16 +48,13 @@ fn fill<V: Value>(gates: &[u32], first: usize, values: &mut [V])
 
 // The output's value, where the caller has filled the inputs' places. Writes place 0 and the gates' places.
 pub fn evaluate<V: Value>(circuit: &Circuit, values: &mut [V]) -> Result<V, TableFault>
-    ensures value { result ≡ evaluated V.ops circuit.now.inputs circuit.now.output circuit.now.gates.now values.old }
-    ensures after { values.new ≡ table_after V.ops circuit.now.inputs circuit.now.gates.now values.old }
-    ensures consistent { IfOk result (Consistent V.ops circuit.now.inputs circuit.now.output circuit.now.gates.now values.new) }
-    ensures sound { IfOk result (Sound V.lanes V.may V.ops circuit.now.inputs circuit.now.output circuit.now.gates.now values.old) }
+    ensures value { result ≡ evaluated V.ops (netlist circuit.now) values.old }
+    ensures after { values.new ≡ table_after V.ops (netlist circuit.now) values.old }
+    ensures consistent { IfOk result (Consistent V.ops (netlist circuit.now) values.new) }
+    ensures sound { IfOk result (Sound V.lanes V.may V.ops (netlist circuit.now) values.old) }
     ensures settled { IfOk result (Settles V.lanes V.may V.ops.falsity circuit.now.inputs values.old) }
 {
-    let places = circuit.places();
-    if values.len() < places {
-        return Err(TableFault::ValuesShort(places));
-    }
+    circuit.check_places(values.len())?;
     values[0] = V::falsity();
     fill(circuit.gates(), circuit.inputs() as usize + 1, values);
     Ok(operand(values, circuit.output()))

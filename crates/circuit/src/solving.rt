@@ -2,6 +2,7 @@
 ghost use Rattle.std.specs.Prelude.{◌≡◌, ◌<◌, ◌≤◌, length};
 ghost use Rattle.circuit.specs.Limits.{max_inputs};
 ghost use Rattle.circuit.specs.Kinds.{bit_ops};
+ghost use Rattle.circuit.specs.Netlists.{netlist};
 ghost use Rattle.circuit.specs.Solutions.{per_input, solves};
 ghost use Rattle.circuit.specs.Answers.{with_room, after_with};
 ghost use Rattle.circuit.specs.Lanes.{row_bit, laid};
@@ -23,13 +24,10 @@ fn lay(inputs: u32, row: u32, values: &mut [Bit])
 
 // Whether a row is a solution. Of a larger number only the inputs' bits count.
 pub fn solution(circuit: &Circuit, row: u32, values: &mut [Bit]) -> Result<bool, TableFault>
-    ensures value { result ≡ with_room circuit.now.inputs circuit.now.gates.now (length values.old) (solves circuit.now.inputs circuit.now.output circuit.now.gates.now row) }
-    ensures after { values.new ≡ after_with bit_ops circuit.now.inputs circuit.now.gates.now (per_input (row_bit row) circuit.now.inputs) values.old }
+    ensures value { result ≡ with_room (netlist circuit.now) (length values.old) (solves (netlist circuit.now) row) }
+    ensures after { values.new ≡ after_with bit_ops (netlist circuit.now) (per_input (row_bit row) circuit.now.inputs) values.old }
 {
-    let places = circuit.places();
-    if values.len() < places {
-        return Err(TableFault::ValuesShort(places));
-    }
+    circuit.check_places(values.len())?;
     lay(circuit.inputs(), row, values);
     let value = evaluate(circuit, values)?;
     Ok(value.on())

@@ -2,7 +2,8 @@ use Rattle.std.proofs.Common.{◌≡◌, ◌+◌, ◌-◌, ◌/◌, ◌<◌, tru
 use Rattle.std.proofs.lemmas.List.{length-take, length-drop}
 use Rattle.std.proofs.lemmas.Bool.{lt-ltb, cond-true}
 use Rattle.circuit.specs.Kinds.{Settled, only}
-use Rattle.circuit.specs.Circuits.{literal, grown}
+use Rattle.circuit.specs.Circuits.{highest, literal, grown}
+use Rattle.circuit.specs.Netlists.{netlist}
 use Rattle.circuit.specs.Solutions.{solves}
 use Rattle.circuit.specs.Answers.{table_with, output_of}
 use Rattle.circuit.proofs.Gates.{table_is, output_is}
@@ -14,31 +15,31 @@ pub returns : goal.returns
 returns g c =
     let o = g.V.Value.ops in
     let laws = g.met.V.Value in
-    let circuit = c.args.circuit.now in
+    let circuit = netlist c.args.circuit.now in
     let n = circuit.inputs in
-    let gates = circuit.gates.now in
+    let gates = circuit.gates in
     let vs = c.args.values.now in
-    let room : n + length gates / 2 < length vs = omega arith in
-    let out : circuit.output / 2 < n + 1 + length gates / 2 = omega (arith, circuit.reached) in
+    let room : highest circuit < length vs = c.in_ok-check_places.ensures.room in
+    let out : circuit.output / 2 < n + 1 + length gates / 2 = omega (arith, c.args.circuit.now.reached) in
     let start = set vs 0 c.falsity.result in
-    let last : c.fill.new.values ≡ table_with o n gates (take n (drop 1 vs)) vs =
-    table_is o n gates vs _ _ c.falsity.ensures room
+    let last : c.fill.new.values ≡ table_with o circuit (take n (drop 1 vs)) vs =
+    table_is o circuit vs _ _ c.falsity.ensures room
     (c.fill.ensures ∙ ap₂ (λ gs m. grown o gs (take (m + 1) start) ++ drop (m + 1 + length gs / 2) start) c.gates.ensures c.inputs.ensures) in
-    let is : c.operand.result ≡ output_of o n circuit.output gates vs =
-    c.operand.ensures ∙ ap₂ (literal o) last c.output.ensures ∙ output_is o n gates vs circuit.output room out in
+    let is : c.operand.result ≡ output_of o circuit vs =
+    c.operand.ensures ∙ ap₂ (literal o) last c.output.ensures ∙ output_is o circuit vs room out in
     record {
       value = ap Ok is ∙ sym (cond-true _ _ _ (lt-ltb _ _ room));
       after = last ∙ sym (cond-true _ _ _ (lt-ltb _ _ room));
-      consistent = consistent o n circuit.output gates (take n (drop 1 vs)) (drop (n + 1 + length gates / 2) vs) c.fill.new.values c.operand.result
-          (simp (length-take, length-drop) (omega arith)) circuit.below last (c.operand.ensures ∙ ap (literal o c.fill.new.values) c.output.ensures);
+      consistent = consistent o circuit (take n (drop 1 vs)) (drop (n + 1 + length gates / 2) vs) c.fill.new.values c.operand.result
+          (simp (length-take, length-drop) (omega arith)) c.args.circuit.now.below last (c.operand.ensures ∙ ap (literal o c.fill.new.values) c.output.ensures);
       sound = λ row lane h a.
-          subst (λ v. g.V.Value.may v lane (solves n circuit.output gates row) ≡ true) (sym is)
+          subst (λ v. g.V.Value.may v lane (solves circuit row) ≡ true) (sym is)
           (carried o (λ v b. g.V.Value.may v lane b ≡ true) (laws.nothing lane h).0 (λ u w p q. laws.joins u w lane p q h) (λ u p. laws.flips u lane p h)
-          n circuit.output gates vs row (omega arith) a);
+          circuit vs row (omega arith) a);
       settled = λ lane h a.
           subst (λ v. Settled (g.V.Value.may v lane)) (sym is)
           (carried o (λ v _. Settled (g.V.Value.may v lane)) (ap₂ (λ p q. is_some (only p q)) (laws.nothing lane h).0 (laws.nothing lane h).1)
-          (λ u w p q. laws.stays u w lane h) (λ u p. laws.turns u lane h) n circuit.output gates vs 0 (omega arith)
+          (λ u w p q. laws.stays u w lane h) (λ u p. laws.turns u lane h) circuit vs 0 (omega arith)
           (λ k l.
           let at : n - 1 - k + 1 ≡ n - k = omega arith in
           subst (λ j. Settled (g.V.Value.may (get_or vs j o.falsity) lane)) at (a (n - 1 - k) (omega arith))));

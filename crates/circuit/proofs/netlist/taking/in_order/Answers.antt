@@ -2,7 +2,7 @@ use Rattle.std.proofs.Common.{◌+◌, ◌*◌, ◌/◌, ◌<◌, ◌≤◌, ◌
 use Rattle.std.proofs.lemmas.List.{at_drop_more, at_drop_all}
 use Rattle.std.proofs.lemmas.Bool.{and_left, lt-ltb, le-ltb, false≢true}
 use Rattle.circuit.specs.Circuits.{ordered}
-use Rattle.circuit.proofs.netlist.in_order.Goals as goal
+use Rattle.circuit.proofs.netlist.taking.in_order.Goals as goal
 
 pub returns-then-operand-inputs : goal.returns-then-operand-inputs
 returns-then-operand-inputs c =
