@@ -4,6 +4,7 @@ use lib.Bits.{bit_and, and_le_l}
 use Rattle.std.specs.List.{range_with_len}
 use Rattle.std.proofs.lemmas.List.{drop_more, get_or_append_left}
 use Rattle.std.proofs.lemmas.List.FromFn.{map-range_with_len_more, length-map-range_with_len, get_or-map-range_with_len}
+use Rattle.circuit.specs.Circuits.{Netlist}
 use Rattle.circuit.specs.Kinds.{bit_at}
 use Rattle.circuit.specs.Lanes.{Lanes, words}
 use Rattle.circuit.specs.Solutions.{solves}
@@ -55,11 +56,11 @@ filled_rows n set ws row h =
     ∙ ap (λ r. set r && ltb r (2 ^ n)) back ∙ and_yes (set row) (ltb row (2 ^ n)) (lt-ltb row (2 ^ n) h)
 
 -- its rows are the circuit's solutions
-pub made_rows : (n output : ℕ) (gates ws : List ℕ) (m : ℕ) (now : List ℕ) → 0 < n → m ≡ n → now ≡ filled n (solves n output gates) ws
-    → rows_of m now ≡ solves n output gates
-made_rows n output gates ws m now p em en = ap₂ rows_of em en ∙ (λ i row. at row i)
+pub made_rows : (c : Netlist) (ws : List ℕ) (m : ℕ) (now : List ℕ) → 0 < c.inputs → m ≡ c.inputs → now ≡ filled c.inputs (solves c) ws
+    → rows_of m now ≡ solves c
+made_rows c ws m now p em en = ap₂ rows_of em en ∙ (λ i row. at row i)
   where
-    at : (row : ℕ) → rows_of n (filled n (solves n output gates) ws) row ≡ solves n output gates row
+    at : (row : ℕ) → rows_of c.inputs (filled c.inputs (solves c) ws) row ≡ solves c row
     at row =
-        ap (λ t. t && table_rows (filled n (solves n output gates) ws) (row % 2 ^ n)) (lt-ltb 0 n p)
-        ∙ filled_rows n (solves n output gates) ws (row % 2 ^ n) (mod-lt row (pow_pos n)) ∙ solves_low n output gates row
+        ap (λ t. t && table_rows (filled c.inputs (solves c) ws) (row % 2 ^ c.inputs)) (lt-ltb 0 c.inputs p)
+        ∙ filled_rows c.inputs (solves c) ws (row % 2 ^ c.inputs) (mod-lt row (pow_pos c.inputs)) ∙ solves_low c row

@@ -6,14 +6,15 @@
 --   table_answer   what making a table answers, with a table of so many words and a value table of so many places
 --   fits           a row fits a question, where its bit of the table is `kind`
 -- Assumes nothing.
-use Rattle.std.specs.Prelude.{ℕ, ◌+◌, ◌*◌, ◌/◌, ◌%◌, ◌^◌, Bool, cond, not, ◌&&◌, List, ◌++◌, map, drop, Ok, Err, Result, nat_lt, slice_index}
+use Rattle.std.specs.Prelude.{ℕ, ◌+◌, ◌*◌, ◌/◌, ◌%◌, ◌^◌, Bool, cond, not, ◌&&◌, List, ◌++◌, map, drop, Err, Result, nat_lt, slice_index}
 use Rattle.std.specs.List.{range_with_len}
 use Rattle.faults.specs.declared.table.TableFault.{TableFault}
-use Rattle.faults.specs.declared.table.TableFault.TheVariants.{TooManyInputs, BitsShort, ValuesShort}
+use Rattle.faults.specs.declared.table.TableFault.TheVariants.{TooManyInputs, BitsShort}
 use Rattle.circuit.specs.Limits.{max_table_inputs}
 use Rattle.circuit.specs.Kinds.{bit_at, same}
 use Rattle.circuit.specs.Lanes.{lanes_of, words}
-use Rattle.circuit.specs.Circuits.{highest}
+use Rattle.circuit.specs.Circuits.{Netlist}
+use Rattle.circuit.specs.Answers.{with_room}
 use Rattle.cubes.specs.declared.entry.Entry.{Entry}
 use Rattle.cubes.specs.Cubes.{within, held}
 
@@ -35,11 +36,10 @@ abbrev pub filled : ℕ → (ℕ → Bool) → List ℕ → List ℕ
 filled n set ws = map (word_of n set) (range_with_len 0 (words n)) ++ drop (words n) ws
 
 -- what is refused, in this order: too many inputs, too few words, too few places of the value table
-abbrev pub table_answer : ℕ → List ℕ → ℕ → ℕ → Result (Unit {0}) TableFault
-table_answer n gates size places =
-    cond (nat_lt max_table_inputs n) (Err (TooManyInputs n))
-    (cond (nat_lt size (words n)) (Err (BitsShort (words n)))
-    (cond (nat_lt places (highest n gates + 1)) (Err (ValuesShort (highest n gates + 1))) (Ok tt)))
+abbrev pub table_answer : Netlist → ℕ → ℕ → Result (Unit {0}) TableFault
+table_answer c size places =
+    cond (nat_lt max_table_inputs c.inputs) (Err (TooManyInputs c.inputs))
+    (cond (nat_lt size (words c.inputs)) (Err (BitsShort (words c.inputs))) (with_room c places tt))
 
 -- ---- the questions
 

@@ -1,5 +1,6 @@
 // The table decider, made from a circuit in lent memory.
 ghost use Rattle.std.specs.Prelude.{◌≡◌, ◌<◌, ◌≤◌, false, ◌&&◌, length, is_ok, if◌then◌else◌};
+ghost use Rattle.circuit.specs.Netlists.{netlist};
 ghost use Rattle.circuit.specs.Limits.{max_table_inputs};
 ghost use Rattle.circuit.specs.Lanes.{words};
 ghost use Rattle.circuit.specs.Solutions.{solves};
@@ -27,10 +28,10 @@ impl<'a> Table<'a> {
         bits: &'a mut [u32],
         values: &mut [Word],
     ) -> (Table<'a>, Result<(), TableFault>)
-        ensures answer { result.1 ≡ table_answer circuit.now.inputs circuit.now.gates.now (length bits.old) (length values.old) }
-        ensures words { result.0.bits.now ≡ (if is_ok result.1 then filled circuit.now.inputs (solves circuit.now.inputs circuit.now.output circuit.now.gates.now) bits.old else bits.old) }
+        ensures answer { result.1 ≡ table_answer (netlist circuit.now) (length bits.old) (length values.old) }
+        ensures words { result.0.bits.now ≡ (if is_ok result.1 then filled circuit.now.inputs (solves (netlist circuit.now)) bits.old else bits.old) }
         ensures inputs { result.0.inputs ≡ (if is_ok result.1 then circuit.now.inputs else 0) }
-        ensures rows { rows_of result.0.inputs result.0.bits.now ≡ (λ row. is_ok result.1 && solves circuit.now.inputs circuit.now.output circuit.now.gates.now row) }
+        ensures rows { rows_of result.0.inputs result.0.bits.now ≡ (λ row. is_ok result.1 && solves (netlist circuit.now) row) }
         ensures values { is_ok result.1 ≡ false → values.new ≡ values.old }
     {
         match room(circuit, bits.len(), values.len()) {

@@ -1,5 +1,6 @@
 // The table of a circuit's solutions, a word of 32 rows at a time.
 ghost use Rattle.std.specs.Prelude.{◌≡◌, ◌<◌, ◌≤◌, length};
+ghost use Rattle.circuit.specs.Netlists.{netlist};
 ghost use Rattle.circuit.specs.Circuits.{highest};
 ghost use Rattle.circuit.specs.Lanes.{words};
 ghost use Rattle.circuit.specs.Solutions.{solves};
@@ -10,7 +11,7 @@ use faults::TableFault;
 
 // Whether a table of so many words and a value table of so many places suffice.
 pub fn room(circuit: &Circuit, size: usize, places: usize) -> Result<(), TableFault>
-    ensures { result ≡ table_answer circuit.now.inputs circuit.now.gates.now size places }
+    ensures { result ≡ table_answer (netlist circuit.now) size places }
 {
     let inputs = circuit.inputs();
     if inputs > MAX_TABLE_INPUTS {
@@ -20,17 +21,14 @@ pub fn room(circuit: &Circuit, size: usize, places: usize) -> Result<(), TableFa
     if size < needed {
         return Err(TableFault::BitsShort(needed));
     }
-    if places < circuit.places() {
-        return Err(TableFault::ValuesShort(circuit.places()));
-    }
-    Ok(())
+    circuit.check_places(places)
 }
 
 // Word w of the table: the solutions among its rows, and 0 where a bit is no row.
 fn table_word(circuit: &Circuit, w: u32, values: &mut [Word]) -> u32
     requires place { w < words circuit.now.inputs }
-    requires values { highest circuit.now.inputs circuit.now.gates.now < length values.old }
-    ensures { result ≡ word_of circuit.now.inputs (solves circuit.now.inputs circuit.now.output circuit.now.gates.now) w }
+    requires values { highest (netlist circuit.now) < length values.old }
+    ensures { result ≡ word_of circuit.now.inputs (solves (netlist circuit.now)) w }
 {
     match solve_word(circuit, w, values) {
         Ok(word) => word.bits() & used_lanes(circuit.inputs()),
@@ -41,8 +39,8 @@ fn table_word(circuit: &Circuit, w: u32, values: &mut [Word]) -> u32
 // Fills the words that the rows need.
 pub fn fill(circuit: &Circuit, bits: &mut [u32], values: &mut [Word])
     requires words { words circuit.now.inputs ≤ length bits.old }
-    requires values { highest circuit.now.inputs circuit.now.gates.now < length values.old }
-    ensures { bits.new ≡ filled circuit.now.inputs (solves circuit.now.inputs circuit.now.output circuit.now.gates.now) bits.old }
+    requires values { highest (netlist circuit.now) < length values.old }
+    ensures { bits.new ≡ filled circuit.now.inputs (solves (netlist circuit.now)) bits.old }
 {
     for w in 0..circuit.word_count() {
         bits[w as usize] = table_word(circuit, w, values);

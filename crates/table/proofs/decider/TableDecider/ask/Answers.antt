@@ -1,4 +1,4 @@
-use Rattle.std.proofs.Common.{◌≡◌, ℕ, ◌%◌, ◌^◌, ◌<◌, ◌&&◌, sym, refl, ap, ◌∙◌, mod-eq_of_lt, arith, lt-ltb}
+use Rattle.std.proofs.Common.{◌≡◌, ℕ, ◌%◌, ◌^◌, ◌<◌, ◌&&◌, sym, ap, ◌∙◌, mod-eq_of_lt, arith, lt-ltb}
 use Rattle.cubes.proofs.Questions.{kept_still}
 use Rattle.table.specs.Tables.{table_rows, rows_of}
 use Rattle.table.proofs.Questions.{answer_like}
