@@ -11,4 +11,4 @@ mod list;
 pub use cube::{Cube, MAX_INPUTS, Row};
 pub use decider::{Decider, Question};
 pub use entry::Entry;
-pub use list::{held, touches};
+pub use list::{held, meets, touches};

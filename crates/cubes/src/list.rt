@@ -19,7 +19,7 @@ pub fn touches(cube: Cube, entries: &[Entry], n: u32) -> Option<usize>
 }
 
 // Whether the cube and the entry share a row. If they share any, they share the one with no bit but those of their values.
-fn meets(cube: Cube, e: Entry, n: u32) -> bool
+pub fn meets(cube: Cube, e: Entry, n: u32) -> bool
     ensures shared { result ≡ true → Touch n cube.care cube.value e }
     ensures apart { result ≡ false → Touch n cube.care cube.value e → ⊥ }
 {

@@ -1,11 +1,11 @@
 -- What the entries that touch a branch say of its rows.
-use Rattle.std.proofs.Common.{◌≡◌, ℕ, ◌+◌, ◌-◌, ◌^◌, ◌<◌, ◌≤◌, true, false, List, length, get_or, take, drop, sym, ap, ◌∙◌, subst, arith, eq-eqb, eqb-true}
+use Rattle.std.proofs.Common.{◌≡◌, ℕ, ◌+◌, ◌-◌, ◌^◌, ◌<◌, ◌≤◌, true, false, List, length, get_or, sym, ap, ◌∙◌, arith, eq-eqb, eqb-true, below_more}
 use lib.Bits.{bit_and, and_self, and_comm}
 use borrow.Author.Tests.{clash}
-use Rattle.std.proofs.lemmas.List.{take_rest, get_or-drop, length-drop}
+use Rattle.std.proofs.lemmas.Bool.{false_from_ne_true}
 use Rattle.circuit.specs.Limits.{max_inputs}
 use Rattle.cubes.specs.declared.entry.Entry.{Entry}
-use Rattle.cubes.specs.Cubes.{within, care_of, value_of, held, blank, Touch}
+use Rattle.cubes.specs.Cubes.{within, care_of, value_of, blank, Touch}
 use Rattle.cubes.proofs.Bits.{and_assoc}
 use Rattle.cubes.proofs.Entries.{held_none}
 use Rattle.search.specs.declared.barring.Barring.{Barring}
@@ -30,30 +30,22 @@ module _ (n care value : ℕ) (e : Entry) where
       let whole : bit_and m care ≡ m = ap (bit_and m) (all_ones n care below single) ∙ and_assoc e.care (2 ^ n - 1) (2 ^ n - 1) ∙ ap (bit_and e.care) (and_self (2 ^ n - 1)) in
       clash (open-left ∙ eq-eqb _ _ whole)
 
--- ---- from one touching entry to the next
+-- ---- from one entry to the next
 
--- no entry touched the branch so far, or it has more than one row
-abbrev pub SoFar : ℕ → ℕ → ℕ → Barring → Type 0
-SoFar n care from Free = from ≡ 0
-SoFar n care from (Part e) = Single n care → ⊥
-SoFar n care from Whole = ⊥
+-- no entry before this place touches the branch, or it has more than one row
+abbrev pub SoFar : ℕ → ℕ → ℕ → List Entry → ℕ → Barring → Type 0
+SoFar n care value es place Free = (i : ℕ) → i < place → Touch n care value (get_or es i blank) → ⊥
+SoFar n care value es place (Part e) = Single n care → ⊥
+SoFar n care value es place Whole = ⊥
 
--- the entries from one place on
-abbrev pub rest : ℕ → List Entry → List Entry
-rest from es = take (length es - from) (drop from es)
+module _ (n care value : ℕ) (es : List Entry) where
+  -- one more entry that does not touch it
+  pub one_apart : (place : ℕ) (b : Barring) → SoFar n care value es place b → (Touch n care value (get_or es place blank) → ⊥) → SoFar n care value es (place + 1) b
+  one_apart place Free none apart = below_more _ _ none apart
+  one_apart place (Part e) several apart = several
+  one_apart place Whole never apart = never
 
-module _ (n care value : ℕ) (es : List Entry) (from : ℕ) where
-  pub touch_at : (k : ℕ) → Touch n care value (get_or (rest from es) k blank) → Touch n care value (get_or es (from + k) blank)
-  touch_at k t =
-      subst (Touch n care value) (ap (λ l. get_or l k blank) (take_rest es from) ∙ get_or-drop from es k blank) t
-
-  pub rest_below : (k : ℕ) → k < length (rest from es) → from + k < length es
-  rest_below k lt = omega (arith, ap length (take_rest es from), length-drop from es)
-
-  pub untouched : (b : Barring) → SoFar n care from b → ((i : ℕ) → i < length (rest from es) → Touch n care value (get_or (rest from es) i blank) → ⊥)
-      → Barred n care value es b
-  untouched Free start none =
-      let all : rest from es ≡ es = take_rest es from ∙ ap (λ i. drop i es) start in
-      λ row lt w. ap (λ l. held l row) (sym all) ∙ held_none (rest from es) row (λ i l. false_from_ne_true _ (λ h. none i l (row, record { below = lt; inside = w; held = h })))
-  untouched (Part e) several none = several
-  untouched Whole never none = absurd never
+  pub untouched : (place : ℕ) (b : Barring) → length es ≤ place → SoFar n care value es place b → Barred n care value es b
+  untouched place Free all none = λ row lt w. held_none es row (λ i l. false_from_ne_true _ (λ h. none i (omega arith) (row, record { below = lt; inside = w; held = h })))
+  untouched place (Part e) all several = several
+  untouched place Whole all never = absurd never

@@ -8,6 +8,7 @@
 use Rattle.std.specs.Prelude.{◌≡◌, ℕ, ◌-◌, ◌/◌, ◌%◌, ◌^◌, ◌<◌, Bool, true, false, cond, ◌&&◌, List, Option, MatchOption, ◌==◌, bit_and, count_ones, nat_lt}
 use Rattle.circuit.specs.declared.ternary.Ternary.{Ternary}
 use Rattle.circuit.specs.declared.ternary.Ternary.TheVariants.{Zero, One, Unknown}
+use Rattle.circuit.specs.Circuits.{Netlist, highest}
 use Rattle.circuit.specs.Kinds.{bit_at}
 use Rattle.cubes.specs.declared.entry.Entry.{Entry}
 use Rattle.cubes.specs.Cubes.{within, held}
@@ -46,6 +47,11 @@ abbrev pub Barred : ℕ → ℕ → ℕ → List Entry → Barring → Type 0
 Barred n care value entries Free = Each n care value (λ row. held entries row ≡ false)
 Barred n care value entries (Part e) = Single n care → ⊥
 Barred n care value entries Whole = Each n care value (λ row. held entries row ≡ true)
+
+-- the branch is of the circuit's rows, and a value table of so many places has one for each variable
+pub record Ready (c : Netlist) (inputs places : ℕ) : Type 0 where
+  pub same : inputs ≡ c.inputs
+  pub room : highest c < places
 
 -- what the branch gives the input at place k
 abbrev pub signal_of : ℕ → ℕ → ℕ → ℕ → Ternary

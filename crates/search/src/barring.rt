@@ -1,9 +1,9 @@
 // What the barred entries do to a branch.
-ghost use Rattle.std.specs.Prelude.{◌≡◌, ◌-◌};
+ghost use Rattle.std.specs.Prelude.{◌≡◌};
 ghost use Rattle.search.specs.Branches.{Barred, fixes_all};
 
 use crate::branch::{Branch, all_fixed};
-use cubes::{Entry, touches};
+use cubes::{Entry, meets};
 
 #[derive(Clone, Copy)]
 pub enum Barring {
@@ -23,19 +23,20 @@ fn fixes_all(branch: Branch, entry: Entry) -> bool
     care & branch.care() == care
 }
 
-// Goes from one touching entry to the next.
+// Of the entries that touch the branch, one that fixes all its inputs bars it whole.
 pub fn bars(barred: &[Entry], branch: Branch) -> Barring
     ensures { Barred branch.inputs branch.care branch.value barred.now result }
 {
+    let cube = branch.cube();
+    let inputs = branch.inputs();
     let mut barring = Barring::Free;
-    let mut from = 0;
-    while let Some(k) = touches(branch.cube(), &barred[from..], branch.inputs()) {
-        let entry = barred[from + k];
-        if fixes_all(branch, entry) {
-            return Barring::Whole;
+    for entry in barred {
+        if meets(cube, *entry, inputs) {
+            if fixes_all(branch, *entry) {
+                return Barring::Whole;
+            }
+            barring = Barring::Part(*entry);
         }
-        barring = Barring::Part(entry);
-        from += k + 1;
     }
     barring
 }

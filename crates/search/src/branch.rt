@@ -62,10 +62,7 @@ impl Branch {
     pub fn is_open(self, place: u32) -> bool
         ensures { result ≡ is_open self.inputs self.care place }
     {
-        if place >= self.inputs {
-            return false;
-        }
-        (self.care >> place) % 2 == 0
+        place < self.inputs && (self.care >> place) % 2 == 0
     }
 
     // The suggested place where its input is open, else the lowest place of an open input.

@@ -1,5 +1,6 @@
 // Making the search decider.
 ghost use Rattle.std.specs.Prelude.{◌≡◌, ◌&&◌, length, is_ok, if◌then◌else◌};
+ghost use Rattle.circuit.specs.Netlists.{netlist};
 ghost use Rattle.circuit.specs.Solutions.{solves};
 ghost use Rattle.search.specs.Searches.{made_of, inputs_of, rows_of};
 
@@ -15,7 +16,7 @@ pub struct Search<'a, 'b> {
     values: &'b mut [Ternary],
 }
 
-// What making gives: a decider in any case, and whether the value table has room.
+// What making gives: a decider in any case, one of no inputs where it is refused, and whether the value table has room.
 #[derive(Drop)]
 pub struct Made<'a, 'b> {
     pub search: Search<'a, 'b>,
@@ -24,18 +25,13 @@ pub struct Made<'a, 'b> {
 
 impl<'a, 'b> Search<'a, 'b> {
     pub fn make(circuit: Circuit<'a>, values: &'b mut [Ternary]) -> Made<'a, 'b>
-        ensures outcome { result.outcome ≡ made_of circuit.entry.inputs circuit.entry.gates.now (length values.old) }
+        ensures outcome { result.outcome ≡ made_of (netlist circuit.entry) (length values.old) }
         ensures circuit { result.search.circuit ≡ circuit.entry }
         ensures values { result.search.values.now ≡ values.old }
         ensures inputs { inputs_of result.search ≡ (if is_ok result.outcome then circuit.entry.inputs else 0) }
-        ensures rows { rows_of result.search ≡ (λ row. is_ok result.outcome && solves circuit.entry.inputs circuit.entry.output circuit.entry.gates.now row) }
+        ensures rows { rows_of result.search ≡ (λ row. is_ok result.outcome && solves (netlist circuit.entry) row) }
     {
-        let places = circuit.places();
-        let outcome = if values.len() < places {
-            Err(TableFault::ValuesShort(places))
-        } else {
-            Ok(())
-        };
+        let outcome = circuit.check_places(values.len());
         let search = Search { circuit, values };
         Made { search, outcome }
     }

@@ -1,9 +1,9 @@
 // The circuit's three-valued output on a branch.
 ghost use Rattle.std.specs.Prelude.{◌≡◌, ℕ, ◌-◌, ◌<◌, length, slice_index_or};
 ghost use Rattle.circuit.specs.declared.ternary.Ternary.TheVariants.{Zero};
-ghost use Rattle.circuit.specs.Circuits.{highest};
+ghost use Rattle.circuit.specs.Netlists.{netlist};
 ghost use Rattle.circuit.specs.Solutions.{solves};
-ghost use Rattle.search.specs.Branches.{signal_of, Known};
+ghost use Rattle.search.specs.Branches.{signal_of, Known, Ready};
 
 use crate::branch::Branch;
 use circuit::{Circuit, Ternary, Value, evaluate};
@@ -35,9 +35,8 @@ fn fill(values: &mut [Ternary], branch: Branch)
 
 // The bit that the output has on each row of the branch, where three values suffice to see it.
 pub fn output_on(circuit: &Circuit, values: &mut [Ternary], branch: Branch) -> Option<bool>
-    requires same { branch.inputs ≡ circuit.now.inputs }
-    requires room { highest circuit.now.inputs circuit.now.gates.now < length values.old }
-    ensures { Known branch.inputs branch.care branch.value (solves circuit.now.inputs circuit.now.output circuit.now.gates.now) result }
+    requires { Ready (netlist circuit.now) branch.inputs (length values.old) }
+    ensures { Known branch.inputs branch.care branch.value (solves (netlist circuit.now)) result }
 {
     fill(values, branch);
     match evaluate(circuit, values) {

@@ -1,15 +1,15 @@
 // What one look at a branch decides.
-ghost use Rattle.std.specs.Prelude.{◌≡◌, ◌<◌, length};
-ghost use Rattle.circuit.specs.Circuits.{highest};
+ghost use Rattle.std.specs.Prelude.{length};
+ghost use Rattle.circuit.specs.Netlists.{netlist};
 ghost use Rattle.circuit.specs.Solutions.{solves};
-ghost use Rattle.search.specs.Branches.{Decided};
+ghost use Rattle.search.specs.Branches.{Decided, Ready};
 
 use crate::barring::{Barring, bars};
 use crate::branch::Branch;
 use crate::choice::{behind_output, last_fixed};
 use crate::signals::output_on;
 use circuit::{Circuit, Ternary};
-use cubes::{Entry, Row};
+use cubes::{Question, Row};
 
 #[derive(Clone, Copy)]
 pub enum Verdict {
@@ -26,27 +26,25 @@ pub fn look(
     circuit: &Circuit,
     values: &mut [Ternary],
     branch: Branch,
-    wanted: bool,
-    barred: &[Entry],
+    question: Question,
 ) -> Verdict
-    requires same { branch.inputs ≡ circuit.now.inputs }
-    requires room { highest circuit.now.inputs circuit.now.gates.now < length values.old }
-    ensures { Decided branch.inputs (solves circuit.now.inputs circuit.now.output circuit.now.gates.now) branch.care branch.value wanted barred.now result }
+    requires { Ready (netlist circuit.now) branch.inputs (length values.old) }
+    ensures { Decided branch.inputs (solves (netlist circuit.now)) branch.care branch.value question.entry.wanted question.entry.barred.now result }
 {
-    let barring = bars(barred, branch);
+    let barring = bars(question.barred, branch);
     if let Barring::Whole = barring {
         return Verdict::Empty;
     }
     let output = output_on(circuit, values, branch);
     if let Some(bit) = output {
-        if bit != wanted {
+        if bit != question.wanted {
             return Verdict::Empty;
         }
     }
     if let Barring::Part(entry) = barring {
         return Verdict::Split(last_fixed(entry, branch));
     }
-    if let Some(_) = output {
+    if output.is_some() {
         return Verdict::Found(branch.value());
     }
     Verdict::Split(behind_output(circuit, values))

@@ -1,25 +1,35 @@
 // The search as a decider.
 ghost use Rattle.std.specs.Prelude.{◌≡◌, false, length};
-ghost use Rattle.cubes.specs.Deciders.{Answer};
-ghost use Rattle.search.specs.Searches.{inputs_of, rows_of};
+ghost use Rattle.cubes.specs.Deciders.{Kept};
+ghost use Rattle.cubes.specs.Questions.{Answered};
+ghost use Rattle.search.specs.Searches.{inputs_of, roomy, rows_of};
 
 use crate::Search;
 use crate::barring::{Barring, bars};
 use crate::branch::Branch;
 use crate::descent::descend;
-use cubes::{Cube, Decider, Entry, Row};
+use cubes::{Decider, Question, Row};
 
 // The answer of a decider of no inputs and no rows: row 0 is all there is, outside its set.
-fn outside_nothing(cube: Cube, wanted: bool, barred: &[Entry]) -> Option<Row>
-    ensures { Answer 0 (λ _. false) cube.care cube.value wanted barred.now result }
+fn outside_nothing(question: Question) -> Option<Row>
+    ensures { Answered 0 (λ _. false) question.entry result }
 {
-    if wanted {
+    if question.wanted {
         return None;
     }
-    let branch = Branch::of_cube(cube, 0)?;
-    match bars(barred, branch) {
+    let branch = Branch::of_cube(question.cube, 0)?;
+    match bars(question.barred, branch) {
         Barring::Free => Some(0),
         Barring::Part(_) | Barring::Whole => None,
+    }
+}
+
+impl<'a, 'b> Search<'a, 'b> {
+    // Whether the value table has a place for each variable.
+    fn is_roomy(&self) -> bool
+        ensures { result ≡ roomy self.now }
+    {
+        self.circuit.places() <= self.values.len()
     }
 }
 
@@ -29,24 +39,24 @@ impl<'a, 'b> Decider for Search<'a, 'b> {
     ghost rows = { rows_of };
 
     fn inputs(&self) -> u32 {
-        if self.values.len() < self.circuit.places() {
-            return 0;
+        if self.is_roomy() {
+            self.circuit.inputs()
+        } else {
+            0
         }
-        self.circuit.inputs()
     }
 
     // Only the value table changes, and what it holds afterwards is free.
-    fn ask(&mut self, cube: Cube, wanted: bool, barred: &[Entry]) -> Option<Row>
-        ensures answer { Answer (inputs_of self.old) (rows_of self.old) cube.care cube.value wanted barred.now result }
-        ensures inputs_kept { inputs_of self.new ≡ inputs_of self.old }
-        ensures rows_kept { rows_of self.new ≡ rows_of self.old }
+    fn ask(&mut self, question: Question) -> Option<Row>
+        ensures answer { Answered (inputs_of self.old) (rows_of self.old) question.entry result }
+        ensures kept { Kept inputs_of rows_of self.old self.new }
         ensures circuit_kept { self.new.circuit ≡ self.old.circuit }
     {
-        let circuit = self.circuit;
-        if self.values.len() < circuit.places() {
-            return outside_nothing(cube, wanted, barred);
+        if !self.is_roomy() {
+            return outside_nothing(question);
         }
-        let branch = Branch::of_cube(cube, circuit.inputs())?;
-        descend(&circuit, self.values, branch, wanted, barred)
+        let circuit = self.circuit;
+        let branch = Branch::of_cube(question.cube, circuit.inputs())?;
+        descend(&circuit, self.values, branch, question)
     }
 }

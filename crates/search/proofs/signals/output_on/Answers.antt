@@ -1,5 +1,6 @@
 use Rattle.std.proofs.Common.{◌≡◌, ◌+◌, ◌-◌, ◌<◌, get_or, sym, ap, ◌∙◌, subst, arith, lit<}
 use Rattle.circuit.specs.declared.ternary.Ternary.TheVariants.{Zero}
+use Rattle.circuit.specs.Netlists.{netlist}
 use Rattle.circuit.specs.Solutions.{solves}
 use Rattle.circuit.specs.Kinds.{bit_at, ternary_allows, Settled}
 use Rattle.search.proofs.Allowed.{signal_allows, signal_settled, looked_known}
@@ -9,7 +10,7 @@ pub returns-in-Ok : goal.returns-in-Ok
 returns-in-Ok c =
     let b = c.args.branch in
     let same = c.requires.same in
-    looked_known b.inputs b.care b.value (solves c.args.circuit.now.inputs c.args.circuit.now.output c.args.circuit.now.gates.now) c.in-Ok.output c.look.result c.look.ensures
+    looked_known b.inputs b.care b.value (solves (netlist c.args.circuit.now)) c.in-Ok.output c.look.result c.look.ensures
     (λ row lt w. c.in-Ok.ensures.sound row 0 (lit< tt) (λ k l.
     let h : k < b.inputs = omega arith in
     ap (λ i. ternary_allows (get_or c.fill.new.values (i - k) Zero) 0 (bit_at row k)) (sym same)
