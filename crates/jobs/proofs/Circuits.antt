@@ -5,7 +5,7 @@ use lib.Seq.{take-append_seam}
 use Rattle.std.proofs.lemmas.Bool.{cond-true, and_from, lt-ltb, le-leb}
 use Rattle.circuit.specs.declared.reading.Reading.{Reading}
 use Rattle.circuit.specs.Limits.{max_inputs, max_gates}
-use Rattle.circuit.specs.Circuits.{ordered, within_limits, taken_up}
+use Rattle.circuit.specs.Circuits.{Netlist, ordered, within_limits, taken_up}
 use Rattle.aiger.specs.Grammar.{GateLines, Written, gate_words, gate_table}
 
 words_length : (gs : List (ℕ × ℕ)) → length (gate_words gs) ≡ 2 * length gs
@@ -54,5 +54,8 @@ module _ (file : List ℕ) (words : ℕ) (r : Reading) (gs : List (ℕ × ℕ)) 
       (and_from (leb r.output (2 * (r.inputs + r.gates) + 1)) _ (le-leb r.output (2 * (r.inputs + r.gates) + 1) (omega arith))
       (and_from (leb (2 * r.gates) (length table)) _ (le-leb (2 * r.gates) (length table) table_holds) gates_ordered))))
 
-  pub taken_as_written : taken_up r table ≡ (r.inputs, r.output, gate_words gs)
-  taken_as_written = cond-true (within_limits r table) _ _ within ∙ ap (λ (ws : List ℕ). (r.inputs, r.output, ws)) gates_are
+  abbrev with_gates : List ℕ → Netlist
+  with_gates ws = record { inputs = r.inputs; output = r.output; gates = ws }
+
+  pub taken_as_written : taken_up r table ≡ record { inputs = r.inputs; output = r.output; gates = gate_words gs }
+  taken_as_written = cond-true (within_limits r table) _ _ within ∙ ap with_gates gates_are

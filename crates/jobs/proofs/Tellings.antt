@@ -6,7 +6,7 @@ use Rattle.faults.specs.declared.job.Fault.{Fault}
 use Rattle.faults.specs.declared.job.JobFault.{JobFault}
 use Rattle.faults.specs.declared.listing.ListingFault.{ListingFault}
 use Rattle.circuit.specs.declared.reading.Reading.{Reading}
-use Rattle.circuit.specs.Circuits.{taken_up}
+use Rattle.circuit.specs.Circuits.{Netlist, taken_up}
 use Rattle.circuit.specs.Solutions.{solves}
 use Rattle.aiger.specs.Reads.{Answer, read_of}
 use Rattle.aiger.proofs.Exact.{exact}
@@ -115,12 +115,12 @@ module _ (file : List ℕ) (mode : ℕ) (room : Room) (register : List Entry) (t
       let a : Answer = read_of file room.gate_table in
       let reads = go_on_lem at_reading text a.1 _ size after e in
       let r : Reading = reads.0 in
-      let c : ℕ × ℕ × List ℕ = taken_up r a.0 in
+      let c : Netlist = taken_up r a.0 in
       let decides = go_on_lem at_deciding text (making_of room c) _ size after reads.2 in
       let w = (exact file room.gate_table a.0 a.1 refl).reads r reads.1 in
       let same = ap (taken_up r) w.2 ∙ taken_as_written file room.gate_table r w.0 w.1 in
-      let tells = told_rows c.0 (solves c.0 c.1 c.2) mode size register text after decides.2 in
-      (tells.0, record { reading = r; gates = w.0; circuit = w.1; list = subst (λ (x : ℕ × ℕ × List ℕ). TellsCircuit x mode (take size after)) same tells.1 })
+      let tells = told_rows c.inputs (solves c) mode size register text after decides.2 in
+      (tells.0, record { reading = r; gates = w.0; circuit = w.1; list = subst (λ (x : Netlist). TellsCircuit x mode (take size after)) same tells.1 })
 
   pub fits : (o : Outcome) → o ≡ list_of file mode room register text → IfOk o.0 (λ size. size ≤ length o.1)
   fits (Ok size, after) e = (told_file size after (sym e)).0

@@ -4,7 +4,7 @@
 -- Assumes nothing.
 use Rattle.std.specs.Prelude.{ℕ, Bool, false, not, List, is_ok, Ok, Err, Result, nat_le}
 use Rattle.faults.specs.declared.table.TableFault.{TableFault}
-use Rattle.circuit.specs.Circuits.{taken_up}
+use Rattle.circuit.specs.Circuits.{Netlist, taken_up}
 use Rattle.circuit.specs.Limits.{max_table_inputs}
 use Rattle.circuit.specs.Solutions.{solves}
 use Rattle.aiger.specs.Reads.{read_of}
@@ -19,7 +19,7 @@ after was (Ok a) more = more a
 after was (Err e) more = was
 
 -- by the circuit that is read, if one is
-abbrev pub after_reading : {X : Type 0} → X → List ℕ → Room → ((ℕ × ℕ × List ℕ) → X) → X
+abbrev pub after_reading : {X : Type 0} → X → List ℕ → Room → (Netlist → X) → X
 after_reading was file room more = after was (read_of file room.gate_table).1 (λ r. more (taken_up r (read_of file room.gate_table).0))
 
 abbrev pub gates_after : List ℕ → Room → List ℕ
@@ -30,8 +30,8 @@ gates_after file room = (read_of file room.gate_table).0
 abbrev pub rows_register : ℕ → ℕ → (ℕ → Bool) → List Entry → List Entry
 rows_register mode n solutions register = after register (opened mode n) (λ d. (run_of most_nexts n solutions (begun d) register).1)
 
-abbrev pub decided_register : Result (Unit {0}) TableFault → ℕ → (ℕ × ℕ × List ℕ) → List Entry → List Entry
-decided_register made mode c register = after register made (λ _. rows_register mode c.0 (solves c.0 c.1 c.2) register)
+abbrev pub decided_register : Result (Unit {0}) TableFault → ℕ → Netlist → List Entry → List Entry
+decided_register made mode c register = after register made (λ _. rows_register mode c.inputs (solves c) register)
 
 abbrev pub register_after : List ℕ → ℕ → Room → List Entry → List Entry
 register_after file mode room register = after_reading register file room (λ c. decided_register (making_of room c) mode c register)
@@ -39,10 +39,10 @@ register_after file mode room register = after_reading register file room (λ c.
 -- ---- the deciders
 
 abbrev pub table_asked : List ℕ → Room → Bool
-table_asked file room = after_reading false file room (λ c. nat_le c.0 max_table_inputs)
+table_asked file room = after_reading false file room (λ c. nat_le c.inputs max_table_inputs)
 
 abbrev pub table_made : List ℕ → Room → Bool
-table_made file room = after_reading false file room (λ c. is_ok (table_answer c.0 c.2 room.bits room.words))
+table_made file room = after_reading false file room (λ c. is_ok (table_answer c room.bits room.words))
 
 abbrev pub search_asked : List ℕ → Room → Bool
-search_asked file room = after_reading false file room (λ c. not (nat_le c.0 max_table_inputs))
+search_asked file room = after_reading false file room (λ c. not (nat_le c.inputs max_table_inputs))

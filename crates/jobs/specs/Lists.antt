@@ -2,7 +2,7 @@
 --   job       reads the file, makes a decider, lists with it and prints the list; the first refusal ends the job
 --   stage     reading, deciding or listing: what the job was doing when it was refused
 --   outcome   the length of the text or the refusal, and the text memory afterwards
---   room      how many words or places each part of the work memory has
+--   room      how many words or places each part of the workspace has
 --   run       next again and again: the finished listing or the refusal, and the register afterwards
 -- Assumes nothing.
 use Rattle.std.specs.Prelude.{ℕ, zero, suc, ◌+◌, Bool, cond, List, length, Ok, Err, Result, nat_le}
@@ -14,7 +14,7 @@ use Rattle.faults.specs.declared.job.JobFault.{JobFault}
 use Rattle.faults.specs.declared.listing.ListingFault.{ListingFault}
 use Rattle.faults.specs.declared.listing.ListingFault.TheVariants.{RegisterFull}
 use Rattle.faults.specs.declared.table.TableFault.{TableFault}
-use Rattle.circuit.specs.Circuits.{taken_up}
+use Rattle.circuit.specs.Circuits.{Netlist, taken_up}
 use Rattle.circuit.specs.Limits.{max_table_inputs}
 use Rattle.circuit.specs.Solutions.{solves}
 use Rattle.aiger.specs.Reads.{read_of}
@@ -29,7 +29,7 @@ use Rattle.listing.specs.declared.states.Refusal.{Refusal}
 use Rattle.listing.specs.Limits.{max_entries}
 use Rattle.listing.specs.Calls.{opened, begun, entries, nexted}
 use Rattle.pla.specs.Printed.{printed}
-use Rattle.jobs.specs.declared.memory.Memory.{Memory}
+use Rattle.jobs.specs.declared.workspace.Workspace.{Workspace}
 
 abbrev pub Outcome : Type 0
 Outcome = Result ℕ JobFault × List ℕ
@@ -40,9 +40,9 @@ pub record Room : Type 0 where
   pub words : ℕ
   pub signals : ℕ
 
--- that a lent memory gives
-abbrev pub room_of : Memory → Room
-room_of m = record { gate_table = length m.gate_table.now; bits = length m.bits.now; words = length m.words.now; signals = length m.signals.now }
+-- that a workspace gives
+abbrev pub room_of : Workspace → Room
+room_of w = record { gate_table = length w.gate_table.now; bits = length w.bits.now; words = length w.words.now; signals = length w.signals.now }
 
 -- the job goes on with what a step gave; where the step refuses, the text memory stays as it was
 abbrev pub go_on : {A E : Type 0} → (E → JobFault) → List ℕ → Result A E → (A → Outcome) → Outcome
@@ -94,15 +94,15 @@ abbrev pub rows_text : ℕ → ℕ → (ℕ → Bool) → List Entry → List �
 rows_text mode n solutions register text =
     go_on at_listing text (opened mode n) (λ d. run_text text (run_of most_nexts n solutions (begun d) register))
 
--- the list of a circuit's solutions, by what making a decider answered; the circuit by its inputs, output and gates
-abbrev pub decided_text : Result (Unit {0}) TableFault → ℕ → (ℕ × ℕ × List ℕ) → List Entry → List ℕ → Outcome
-decided_text made mode c register text = go_on at_deciding text made (λ _. rows_text mode c.0 (solves c.0 c.1 c.2) register text)
+-- the list of a circuit's solutions, by what making a decider answered
+abbrev pub decided_text : Result (Unit {0}) TableFault → ℕ → Netlist → List Entry → List ℕ → Outcome
+decided_text made mode c register text = go_on at_deciding text made (λ _. rows_text mode c.inputs (solves c) register text)
 
 -- a table decider for few inputs, else a search decider
-abbrev pub making_of : Room → (ℕ × ℕ × List ℕ) → Result (Unit {0}) TableFault
-making_of room c = cond (nat_le c.0 max_table_inputs) (table_answer c.0 c.2 room.bits room.words) (made_of c.0 c.2 room.signals)
+abbrev pub making_of : Room → Netlist → Result (Unit {0}) TableFault
+making_of room c = cond (nat_le c.inputs max_table_inputs) (table_answer c room.bits room.words) (made_of c room.signals)
 
-abbrev pub circuit_text : Room → ℕ → (ℕ × ℕ × List ℕ) → List Entry → List ℕ → Outcome
+abbrev pub circuit_text : Room → ℕ → Netlist → List Entry → List ℕ → Outcome
 circuit_text room mode c register text = decided_text (making_of room c) mode c register text
 
 abbrev pub list_of : List ℕ → ℕ → Room → List Entry → List ℕ → Outcome

@@ -5,6 +5,7 @@
 -- Assumes nothing.
 use Rattle.std.specs.Prelude.{◌≡◌, ℕ, ◌^◌, ◌<◌, Bool, ◌↔◌, List, [], map, Some}
 use Rattle.circuit.specs.declared.reading.Reading.{Reading}
+use Rattle.circuit.specs.Circuits.{Netlist}
 use Rattle.circuit.specs.Solutions.{solves}
 use Rattle.aiger.specs.Grammar.{Written, gate_words}
 use Rattle.cubes.specs.declared.cube.Cube.{Cube}
@@ -29,25 +30,25 @@ pub record Tells (n : ℕ) (S : ℕ → Bool) (mode : ℕ) (text : List ℕ) : T
   -- and in mode 1 it is in one cube at most
   pub apart : mode ≡ 1 → (i j row : ℕ) → Holds n cubes i row → Holds n cubes j row → i ≡ j
 
--- the list of a circuit's solutions; the circuit by its inputs, output and gates
-abbrev pub TellsCircuit : (ℕ × ℕ × List ℕ) → ℕ → List ℕ → Type 0
-TellsCircuit c mode text = Tells c.0 (solves c.0 c.1 c.2) mode text
+-- the list of a circuit's solutions
+abbrev pub TellsCircuit : Netlist → ℕ → List ℕ → Type 0
+TellsCircuit c mode text = Tells c.inputs (solves c) mode text
 
 -- the file is a written circuit, with a gate table of so many words, and the text is of its list
 pub record Told (file : List ℕ) (words mode : ℕ) (text : List ℕ) : Type 0 where
   pub reading : Reading
   pub gates : List (ℕ × ℕ)
   pub circuit : Written file words reading gates
-  pub list : TellsCircuit (reading.inputs, reading.output, gate_words gates) mode text
+  pub list : TellsCircuit (record { inputs = reading.inputs; output = reading.output; gates = gate_words gates }) mode text
 
 -- ---- two texts of one mode
 
-abbrev pub told_circuit : {file : List ℕ} {words mode : ℕ} {text : List ℕ} → Told file words mode text → (ℕ × ℕ × List ℕ)
-told_circuit t = (t.reading.inputs, t.reading.output, gate_words t.gates)
+abbrev pub told_circuit : {file : List ℕ} {words mode : ℕ} {text : List ℕ} → Told file words mode text → Netlist
+told_circuit t = record { inputs = t.reading.inputs; output = t.reading.output; gates = gate_words t.gates }
 
 -- as many inputs, and the same solutions
-abbrev pub SameSolutions : (ℕ × ℕ × List ℕ) → (ℕ × ℕ × List ℕ) → Type 0
-SameSolutions c c' = (c.0 ≡ c'.0) × ((row : ℕ) → row < 2 ^ c.0 → solves c.0 c.1 c.2 row ≡ solves c'.0 c'.1 c'.2 row)
+abbrev pub SameSolutions : Netlist → Netlist → Type 0
+SameSolutions c c' = (c.inputs ≡ c'.inputs) × ((row : ℕ) → row < 2 ^ c.inputs → solves c row ≡ solves c' row)
 
 -- they are equal exactly when the circuits have the same solutions, however the two files are written and long their gate tables
 abbrev pub TextsCompare : Type 0

@@ -16,11 +16,7 @@ pub fn finish<D: Decider>(
 {
     let mut listing = running;
     loop {
-        let step = match listing.next(register, decider) {
-            Ok(step) => step,
-            Err(refusal) => return Err(refusal.fault),
-        };
-        match step {
+        match listing.next(register, decider)? {
             Step::Listed(longer) => listing = longer,
             Step::Ended(finished) => return Ok(finished),
         }

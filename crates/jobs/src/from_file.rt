@@ -1,12 +1,13 @@
 // From the bytes of a file to the text of its list.
 ghost use Rattle.std.specs.Prelude.{◌≡◌, ◌≤◌, false, length, take, is_ok, IfOk};
+ghost use Rattle.circuit.specs.Netlists.{netlist};
 ghost use Rattle.table.specs.Tables.{table_answer};
 ghost use Rattle.search.specs.Searches.{made_of};
 ghost use Rattle.jobs.specs.Afterwards.{decided_register, gates_after, register_after, search_asked, table_asked, table_made};
 ghost use Rattle.jobs.specs.Lists.{decided_text, list_of, room_of};
 ghost use Rattle.jobs.specs.Told.{TextsCompare, Told};
 
-use crate::Memory;
+use crate::Workspace;
 use crate::printing::print_list;
 use circuit::{Circuit, MAX_TABLE_INPUTS, Ternary, Word};
 use cubes::{Decider, Entry};
@@ -23,9 +24,9 @@ fn by_table(
     register: &mut [Entry],
     text: &mut [u8],
 ) -> Result<usize, JobFault>
-    ensures value { (result, text.new) ≡ decided_text (table_answer circuit.now.inputs circuit.now.gates.now (length bits.old) (length words.old)) mode (circuit.now.inputs, circuit.now.output, circuit.now.gates.now) register.old text.old }
-    ensures register { register.new ≡ decided_register (table_answer circuit.now.inputs circuit.now.gates.now (length bits.old) (length words.old)) mode (circuit.now.inputs, circuit.now.output, circuit.now.gates.now) register.old }
-    ensures words { is_ok (table_answer circuit.now.inputs circuit.now.gates.now (length bits.old) (length words.old)) ≡ false → words.new ≡ words.old }
+    ensures value { (result, text.new) ≡ decided_text (table_answer (netlist circuit.now) (length bits.old) (length words.old)) mode (netlist circuit.now) register.old text.old }
+    ensures register { register.new ≡ decided_register (table_answer (netlist circuit.now) (length bits.old) (length words.old)) mode (netlist circuit.now) register.old }
+    ensures words { is_ok (table_answer (netlist circuit.now) (length bits.old) (length words.old)) ≡ false → words.new ≡ words.old }
 {
     let (mut table, made) = Table::make(circuit, bits, words);
     made?;
@@ -40,8 +41,8 @@ fn by_search(
     register: &mut [Entry],
     text: &mut [u8],
 ) -> Result<usize, JobFault>
-    ensures value { (result, text.new) ≡ decided_text (made_of circuit.entry.inputs circuit.entry.gates.now (length signals.old)) mode (circuit.entry.inputs, circuit.entry.output, circuit.entry.gates.now) register.old text.old }
-    ensures register { register.new ≡ decided_register (made_of circuit.entry.inputs circuit.entry.gates.now (length signals.old)) mode (circuit.entry.inputs, circuit.entry.output, circuit.entry.gates.now) register.old }
+    ensures value { (result, text.new) ≡ decided_text (made_of (netlist circuit.entry) (length signals.old)) mode (netlist circuit.entry) register.old text.old }
+    ensures register { register.new ≡ decided_register (made_of (netlist circuit.entry) (length signals.old)) mode (netlist circuit.entry) register.old }
 {
     let Made {
         mut search,
@@ -54,27 +55,32 @@ fn by_search(
 // Lists the solutions of the file's circuit, and writes the text of the list: mode 1 is of separate cubes, mode 2 of
 // shared rows. Gives the length of the text. A refusal leaves the text memory as it was. Afterwards the gate table holds
 // what was read, and the register what was listed. Left open is only the memory of the decider that is asked for: the
-// bits of a table, its words once it is made, the signals of a search. The clauses name the fields of the memory at the
+// bits of a table, its words once it is made, the signals of a search. The clauses name the fields of the workspace at the
 // return by place: .0 is the gate table, .1 what comes after it, and so on.
-pub fn list(file: &[u8], mode: u32, memory: Memory, text: &mut [u8]) -> Result<usize, JobFault>
-    ensures value { (result, text.new) ≡ list_of file.now mode (record { gate_table = length memory.entry.gate_table.now; bits = length memory.entry.bits.now; words = length memory.entry.words.now; signals = length memory.entry.signals.now }) memory.entry.register.now text.old }
+pub fn list(
+    file: &[u8],
+    mode: u32,
+    workspace: Workspace,
+    register: &mut [Entry],
+    text: &mut [u8],
+) -> Result<usize, JobFault>
+    ensures value { (result, text.new) ≡ list_of file.now mode (room_of workspace.entry) register.old text.old }
     ensures fits { IfOk result (λ size. size ≤ length text.new) }
-    ensures told { IfOk result (λ size. Told file.now (length memory.entry.gate_table.now) mode (take size text.new)) }
+    ensures told { IfOk result (λ size. Told file.now (length workspace.entry.gate_table.now) mode (take size text.new)) }
     ensures compared { TextsCompare }
-    ensures gates { memory.exit.0.now ≡ gates_after file.now (room_of memory.entry) }
-    ensures bits { table_asked file.now (room_of memory.entry) ≡ false → memory.exit.1.0.now ≡ memory.entry.bits.now }
-    ensures words { table_made file.now (room_of memory.entry) ≡ false → memory.exit.1.1.0.now ≡ memory.entry.words.now }
-    ensures signals { search_asked file.now (room_of memory.entry) ≡ false → memory.exit.1.1.1.0.now ≡ memory.entry.signals.now }
-    ensures register { memory.exit.1.1.1.1.0.now ≡ register_after file.now mode (room_of memory.entry) memory.entry.register.now }
+    ensures gates { workspace.exit.0.now ≡ gates_after file.now (room_of workspace.entry) }
+    ensures bits { table_asked file.now (room_of workspace.entry) ≡ false → workspace.exit.1.0.now ≡ workspace.entry.bits.now }
+    ensures words { table_made file.now (room_of workspace.entry) ≡ false → workspace.exit.1.1.0.now ≡ workspace.entry.words.now }
+    ensures signals { search_asked file.now (room_of workspace.entry) ≡ false → workspace.exit.1.1.1.0.now ≡ workspace.entry.signals.now }
+    ensures register { register.new ≡ register_after file.now mode (room_of workspace.entry) register.old }
 {
     laws();
-    let Memory {
+    let Workspace {
         gate_table,
         bits,
         words,
         signals,
-        register,
-    } = memory;
+    } = workspace;
     let reading = aiger::read(file, gate_table)?;
     let circuit = Circuit::take_up(reading, gate_table);
     if circuit.inputs() <= MAX_TABLE_INPUTS {

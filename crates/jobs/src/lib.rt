@@ -6,8 +6,8 @@
 
 mod finishing;
 mod from_file;
-mod memory;
 mod printing;
+mod workspace;
 
 pub use from_file::list;
-pub use memory::Memory;
+pub use workspace::Workspace;

@@ -20,11 +20,8 @@ pub fn print_list<D: Decider>(
 {
     let draft = Draft::open(mode, decider.inputs())?;
     let finished = finish(draft.begin(), register, decider)?;
-    match pla::print(&finished, register, text) {
-        Ok(length) => Ok(length),
-        Err(fault) => Err(JobFault {
-            fault,
-            stage: Stage::Listing,
-        }),
-    }
+    pla::print(&finished, register, text).map_err(|fault| JobFault {
+        fault,
+        stage: Stage::Listing,
+    })
 }

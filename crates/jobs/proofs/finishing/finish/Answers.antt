@@ -1,5 +1,8 @@
-use Rattle.std.proofs.Common.{◌≡◌, ◌+◌, Ok, sym, refl, ap, ◌∙◌, arith}
+use Rattle.std.proofs.Common.{◌≡◌, ◌+◌, Ok, Err, Result, sym, ap, ◌∙◌, rules, arith}
+use Rattle.faults.specs.declared.listing.ListingFault.{ListingFault}
+use Rattle.cubes.proofs.Questions.{kept_still, kept_on}
 use Rattle.listing.specs.declared.states.Running.{Running}
+use Rattle.listing.specs.declared.states.Finished.{Finished}
 use Rattle.listing.specs.declared.states.Step.{Step}
 use Rattle.listing.specs.declared.states.Step.TheVariants.{Listed}
 use Rattle.listing.specs.Calls.{nexted}
@@ -9,36 +12,37 @@ use Rattle.jobs.proofs.finishing.finish.Goals as goal
 
 -- the next of a turn that listed
 listed : (g : given.Over) (c : goal.In-Listed g)
-    → nexted c.loop-step.listing (g.D.Decider.arity c.args.decider.now) (g.D.Decider.rows c.args.decider.now) c.loop-step.register
+    → nexted c.loop-longer.listing (g.D.Decider.arity c.args.decider.now) (g.D.Decider.rows c.args.decider.now) c.loop-longer.register
     ≡ (Ok (Listed c.in-Listed.longer), c.next.new.register)
 listed g c =
-    asked c.loop-step.listing _ _ _ _ c.loop-step.register _ c.loop-step.invariant.0 c.loop-step.invariant.1 c.in-Ok.ensures.next
+    asked c.loop-longer.listing _ _ _ _ c.loop-longer.register _ c.loop-longer.invariant.0.inputs c.loop-longer.invariant.0.rows c.in_ok-longer.ensures.next
     ∙ ap (λ (s : Step). (Ok s, c.next.new.register)) c.in-Listed.is
 
-pub loop-step-init : goal.loop-step-init
-loop-step-init g c = (refl, refl, rest_all _ _ _ _)
+pub loop-longer-init : goal.loop-longer-init
+loop-longer-init g c = (kept_still _ _ _, rest_all _ _ _ _)
 
-pub loop-step-preserved : goal.loop-step-preserved
-loop-step-preserved g c = (
-  c.next.ensures.inputs_kept ∙ c.loop-step.invariant.0,
-  c.next.ensures.rows_kept ∙ c.loop-step.invariant.1,
-  rest_lists _ _ _ _ c.loop-step.listing c.loop-step.register c.next.new.register c.loop-step.invariant.2 c.in-Listed.longer (listed g c),
+pub loop-longer-preserved : goal.loop-longer-preserved
+loop-longer-preserved g c = (
+  kept_on _ _ _ _ _ c.loop-longer.invariant.0 c.next.ensures.kept,
+  rest_lists _ _ _ _ c.loop-longer.listing c.loop-longer.register c.next.new.register c.loop-longer.invariant.1 c.in-Listed.longer (listed g c),
 )
 
-pub loop-step-smaller : goal.loop-step-smaller
-loop-step-smaller g c =
-    let more = lists_more c.loop-step.listing _ _ _ c.in-Listed.longer c.next.new.register (listed g c) in
-    let one : c.in-Listed.longer.cubes ≡ c.loop-step.listing.cubes + 1 = ap (λ (l : Running). l.cubes) more.0 in
+pub loop-longer-smaller : goal.loop-longer-smaller
+loop-longer-smaller g c =
+    let more = lists_more c.loop-longer.listing _ _ _ c.in-Listed.longer c.next.new.register (listed g c) in
+    let one : c.in-Listed.longer.cubes ≡ c.loop-longer.listing.cubes + 1 = ap (λ (l : Running). l.cubes) more.0 in
     let few = more.1 in
     omega arith
 
-pub returns-in-Err : goal.returns-in-Err
-returns-in-Err g c =
-    sym (rest_refuses _ _ _ _ c.loop-step.listing c.loop-step.register c.next.new.register c.loop-step.invariant.2 c.in-Err.refusal
-    (asked c.loop-step.listing _ _ _ _ c.loop-step.register _ c.loop-step.invariant.0 c.loop-step.invariant.1 c.in-Err.ensures.next))
+pub returns-in_err-longer : goal.returns-in_err-longer
+returns-in_err-longer g c =
+    let fault : c.from_residual.result ≡ Err c.in_err-longer.field-0.0.fault = search rules in
+    ap (λ (r : Result Finished ListingFault). (r, c.next.new.register)) fault
+    ∙ sym (rest_refuses _ _ _ _ c.loop-longer.listing c.loop-longer.register c.next.new.register c.loop-longer.invariant.1 c.in_err-longer.field-0.0
+    (asked c.loop-longer.listing _ _ _ _ c.loop-longer.register _ c.loop-longer.invariant.0.inputs c.loop-longer.invariant.0.rows c.in_err-longer.ensures.next))
 
 pub returns-in-Ended : goal.returns-in-Ended
 returns-in-Ended g c =
-    sym (rest_ends _ _ _ _ c.loop-step.listing c.loop-step.register c.next.new.register c.loop-step.invariant.2 c.in-Ended.finished
-    (asked c.loop-step.listing _ _ _ _ c.loop-step.register _ c.loop-step.invariant.0 c.loop-step.invariant.1 c.in-Ok.ensures.next
+    sym (rest_ends _ _ _ _ c.loop-longer.listing c.loop-longer.register c.next.new.register c.loop-longer.invariant.1 c.in-Ended.finished
+    (asked c.loop-longer.listing _ _ _ _ c.loop-longer.register _ c.loop-longer.invariant.0.inputs c.loop-longer.invariant.0.rows c.in_ok-longer.ensures.next
     ∙ ap (λ (s : Step). (Ok s, c.next.new.register)) c.in-Ended.is))

@@ -1,11 +1,11 @@
-use Rattle.std.proofs.Common.{◌≡◌, ℕ, List, Ok, rules}
+use Rattle.std.proofs.Common.{◌≡◌, Ok, rules}
+use Rattle.circuit.specs.Netlists.{netlist}
 use Rattle.jobs.proofs.Stages.{decided_text_lem, decided_register_lem}
 use Rattle.jobs.proofs.from_file.by_search.Goals as goal
 
 pub returns : goal.returns
 returns c =
-    let circuit = c.args.circuit in
-    let numbers : ℕ × ℕ × List ℕ = (circuit.inputs, circuit.output, circuit.gates.now) in
+    let numbers = netlist c.args.circuit in
     let made = c.make-search.result.outcome in
     let went : made ≡ Ok tt = search rules in
     let e = c.make-search.ensures in

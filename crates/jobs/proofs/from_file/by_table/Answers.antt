@@ -1,12 +1,12 @@
-use Rattle.std.proofs.Common.{◌≡◌, ℕ, List, is_ok, Ok, Result, ap, ◌∙◌, rules}
+use Rattle.std.proofs.Common.{◌≡◌, is_ok, Ok, Result, ap, ◌∙◌, rules}
 use Rattle.faults.specs.declared.table.TableFault.{TableFault}
+use Rattle.circuit.specs.Netlists.{netlist}
 use Rattle.jobs.proofs.Stages.{decided_text_lem, decided_register_lem}
 use Rattle.jobs.proofs.from_file.by_table.Goals as goal
 
 pub returns : goal.returns
 returns c =
-    let circuit = c.args.circuit.now in
-    let numbers : ℕ × ℕ × List ℕ = (circuit.inputs, circuit.output, circuit.gates.now) in
+    let numbers = netlist c.args.circuit.now in
     let made = c.make-made.result.1 in
     let went : made ≡ Ok tt = search rules in
     let e = c.make-made.ensures in

@@ -3,6 +3,8 @@ use Rattle.faults.specs.declared.job.JobFault.{JobFault}
 use Rattle.faults.specs.declared.table.TableFault.{TableFault}
 use Rattle.circuit.specs.declared.ternary.Ternary.{Ternary}
 use Rattle.circuit.specs.declared.word.Word.{Word}
+use Rattle.circuit.specs.Circuits.{Netlist}
+use Rattle.circuit.specs.Netlists.{netlist}
 use Rattle.circuit.specs.Limits.{max_table_inputs}
 use Rattle.cubes.specs.declared.entry.Entry.{Entry}
 use Rattle.table.specs.Tables.{table_answer}
@@ -18,22 +20,22 @@ abbrev Lendings : Type 0
 Lendings = List ℕ × List Word × List Ternary
 
 -- what deciding and listing left
-record Left (room : Room) (mode : ℕ) (c : ℕ × ℕ × List ℕ) (register register' : List Entry) (text : List ℕ) (o : Outcome) (before after : Lendings) : Type 0 where
+record Left (room : Room) (mode : ℕ) (c : Netlist) (register register' : List Entry) (text : List ℕ) (o : Outcome) (before after : Lendings) : Type 0 where
   text_is : o ≡ circuit_text room mode c register text
   register_is : register' ≡ decided_register (making_of room c) mode c register
   lent : Lent room c before after
 
 pub returns : goal.returns
 returns c =
-    let memory = c.args.memory in
-    let room : Room = room_of memory in
+    let workspace = c.args.workspace in
+    let room : Room = room_of workspace in
     let circuit = c.take_up-circuit.result in
-    let numbers : ℕ × ℕ × List ℕ = (circuit.inputs, circuit.output, circuit.gates.now) in
+    let numbers = netlist circuit in
     let mode = c.args.mode in
     let file = c.args.file.now in
     let text = c.args.text.now in
-    let register = memory.register.now in
-    let before : Lendings = (memory.bits.now, memory.words.now, memory.signals.now) in
+    let register = c.args.register.now in
+    let before : Lendings = (workspace.bits.now, workspace.words.now, workspace.signals.now) in
     let join = c.if-inputs-le-MAX_TABLE_INPUTS in
     let after : Lendings = (join.bits, join.words, join.signals) in
     let same : c.inputs.result ≡ circuit.inputs = c.inputs.ensures in
@@ -64,7 +66,7 @@ returns c =
     let reading = c.in_ok-reading.reading in
     let taken = c.take_up-circuit.ensures in
     let value = file_text room numbers file _ reading reads taken mode register text outcome left.text_is in
-    let few : (ℕ × ℕ × List ℕ) → Bool = λ d. leb d.0 max_table_inputs in
+    let few : Netlist → Bool = λ d. leb d.inputs max_table_inputs in
     record {
       value = value;
       fits = fits file mode room register text outcome value;
@@ -72,7 +74,7 @@ returns c =
       compared = c.laws.ensures;
       gates = ap (λ (a : List ℕ × _). a.0) reads;
       bits = λ no. left.lent.bits (file_after room numbers file _ reading reads taken false few ∙ no);
-      words = λ no. left.lent.words (file_after room numbers file _ reading reads taken false (λ d. is_ok (table_answer d.0 d.2 room.bits room.words)) ∙ no);
+      words = λ no. left.lent.words (file_after room numbers file _ reading reads taken false (λ d. is_ok (table_answer d room.bits room.words)) ∙ no);
       signals = λ no. left.lent.signals (file_after room numbers file _ reading reads taken false (λ d. not (few d)) ∙ no);
       register = left.register_is ∙ file_after room numbers file _ reading reads taken register (λ d. decided_register (making_of room d) mode d register);
     }

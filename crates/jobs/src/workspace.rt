@@ -1,10 +1,9 @@
-// The work memory of a job.
+// The memory that a job works in.
 use circuit::{Ternary, Word};
-use cubes::Entry;
 
-// Lent by the caller, with any content. The contract of `list` says what it holds afterwards.
+// For a circuit that is read, and a decider of its solutions. Lent by the caller, with any content.
 #[derive(Drop)]
-pub struct Memory<'a> {
+pub struct Workspace<'a> {
     // Two words a gate.
     pub gate_table: &'a mut [u32],
     // For up to 16 inputs: a bit a row, and a place a variable.
@@ -12,6 +11,4 @@ pub struct Memory<'a> {
     pub words: &'a mut [Word],
     // For more inputs: a place a variable.
     pub signals: &'a mut [Ternary],
-    // An entry a cube.
-    pub register: &'a mut [Entry],
 }
