@@ -1,5 +1,6 @@
 pub mod Gates
 pub mod Rows
+pub mod Room
 pub mod Carried
 pub mod Laid
 pub mod Lanes

@@ -12,9 +12,13 @@ use Rattle.circuit.specs.Solutions.{solves}
 abbrev pub with_room : {X : Type 0} → Netlist → ℕ → X → Result X TableFault
 with_room c places x = cond (nat_lt (highest c) places) (Ok x) (Err (ValuesShort (highest c + 1)))
 
--- the output's value, where the inputs' places of the table have theirs
+-- the output's value, where the inputs have these
+abbrev pub output_with : {X : Type 0} → Ops X → Netlist → List X → X
+output_with o c held = literal o (variables o c.gates held) c.output
+
+-- the same, where the inputs' places of the table have theirs
 abbrev pub output_of : {X : Type 0} → Ops X → Netlist → List X → X
-output_of o c vs = literal o (variables o c.gates (take c.inputs (drop 1 vs))) c.output
+output_of o c vs = output_with o c (take c.inputs (drop 1 vs))
 
 abbrev pub evaluated : {X : Type 0} → Ops X → Netlist → List X → Result X TableFault
 evaluated o c vs = with_room c (length vs) (output_of o c vs)
@@ -38,15 +42,18 @@ pub record Consistent {X : Type 0} (o : Ops X) (c : Netlist) (vs : List X) (v : 
       → slice_index_or vs (c.inputs + 1 + k) o.falsity ≡ o.both (literal o vs (slice_index c.gates (2 * k))) (literal o vs (slice_index c.gates (2 * k + 1)))
   pub out : v ≡ literal o vs c.output
 
--- in this lane the inputs' places allow the row's bits
-abbrev pub AllowsRow : {X : Type 0} → (X → ℕ → Bool → Bool) → X → ℕ → List X → ℕ → ℕ → Type 0
-AllowsRow allows falsity inputs vs lane row = (k : ℕ) → k < inputs → allows (slice_index_or vs (inputs - k) falsity) lane (bit_at row k) ≡ true
+-- what the inputs' places of the value table hold, by the place of the input's bit in a row
+abbrev pub inputs_of : {X : Type 0} → X → ℕ → List X → ℕ → X
+inputs_of falsity inputs vs k = slice_index_or vs (inputs - k) falsity
+
+-- in this lane the inputs' values allow the row's bits
+abbrev pub AllowsRow : {X : Type 0} → (X → ℕ → Bool → Bool) → ℕ → (ℕ → X) → ℕ → ℕ → Type 0
+AllowsRow allows inputs given lane row = (k : ℕ) → k < inputs → allows (given k) lane (bit_at row k) ≡ true
 
 -- the output allows the circuit's value wherever the inputs allow the row
-abbrev pub Sound : {X : Type 0} → ℕ → (X → ℕ → Bool → Bool) → Ops X → Netlist → List X → X → Type 0
-Sound lanes allows o c vs v = (row lane : ℕ) → lane < lanes → AllowsRow allows o.falsity c.inputs vs lane row → allows v lane (solves c row) ≡ true
+abbrev pub Sound : {X : Type 0} → ℕ → (X → ℕ → Bool → Bool) → Netlist → (ℕ → X) → X → Type 0
+Sound lanes allows c given v = (row lane : ℕ) → lane < lanes → AllowsRow allows c.inputs given lane row → allows v lane (solves c row) ≡ true
 
 -- the output is settled wherever all inputs are
-abbrev pub Settles : {X : Type 0} → ℕ → (X → ℕ → Bool → Bool) → X → ℕ → List X → X → Type 0
-Settles lanes allows falsity inputs vs v =
-    (lane : ℕ) → lane < lanes → ((k : ℕ) → k < inputs → Settled (allows (slice_index_or vs (k + 1) falsity) lane)) → Settled (allows v lane)
+abbrev pub Settles : {X : Type 0} → ℕ → (X → ℕ → Bool → Bool) → ℕ → (ℕ → X) → X → Type 0
+Settles lanes allows inputs given v = (lane : ℕ) → lane < lanes → ((k : ℕ) → k < inputs → Settled (allows (given k) lane)) → Settled (allows v lane)

@@ -66,10 +66,6 @@ impl Value for Bit {
     }
 
     fn look(self, lane: u32) -> Option<bool> {
-        if lane < Self::LANES {
-            Some(self.on)
-        } else {
-            None
-        }
+        (lane < Self::LANES).then_some(self.on)
     }
 }

@@ -1,4 +1,4 @@
-use Rattle.std.proofs.Common.{◌≡◌, ◌+◌, ◌-◌, ◌/◌, ◌<◌, true, ◌++◌, length, get_or, take, drop, set, is_some, Ok, sym, ap, ◌∙◌, subst, ap₂, arith}
+use Rattle.std.proofs.Common.{◌≡◌, ◌+◌, ◌/◌, ◌<◌, true, ◌++◌, length, take, drop, set, is_some, Ok, sym, ap, ◌∙◌, subst, ap₂, arith}
 use Rattle.std.proofs.lemmas.List.{length-take, length-drop}
 use Rattle.std.proofs.lemmas.Bool.{lt-ltb, cond-true}
 use Rattle.circuit.specs.Kinds.{Settled, only}
@@ -39,8 +39,5 @@ returns g c =
       settled = λ lane h a.
           subst (λ v. Settled (g.V.Value.may v lane)) (sym is)
           (carried o (λ v _. Settled (g.V.Value.may v lane)) (ap₂ (λ p q. is_some (only p q)) (laws.nothing lane h).0 (laws.nothing lane h).1)
-          (λ u w p q. laws.stays u w lane h) (λ u p. laws.turns u lane h) circuit vs 0 (omega arith)
-          (λ k l.
-          let at : n - 1 - k + 1 ≡ n - k = omega arith in
-          subst (λ j. Settled (g.V.Value.may (get_or vs j o.falsity) lane)) at (a (n - 1 - k) (omega arith))));
+          (λ u w p q. laws.stays u w lane h) (λ u p. laws.turns u lane h) circuit vs 0 (omega arith) a);
     }
