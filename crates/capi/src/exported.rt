@@ -1,37 +1,35 @@
 // The exported call.
 ghost use Rattle.std.specs.Prelude.{◌≡◌, ◌≤◌, length, take};
 ghost use Rattle.jobs.specs.Lists.{list_of};
+ghost use Rattle.jobs.specs.Sizes.{enough, blank_register};
 ghost use Rattle.jobs.specs.Told.{Told};
-ghost use Rattle.capi.specs.Sizes.{room, blank_register};
 ghost use Rattle.capi.specs.Answers.{answered};
 
 use crate::Answer;
-use crate::sizes::{BIT_WORDS, ENTRIES, GATE_WORDS, PLACES};
 use circuit::{Ternary, Word};
 use cubes::Entry;
-use jobs::Memory;
+use jobs::{BIT_WORDS, ENTRIES, GATE_WORDS, PLACES, Workspace};
 
 // Lists the solutions of the file's circuit in a mode, as `jobs::list` does, with work memory of its own. Gives 0, or
 // the number of the refusal.
 #[unsafe(no_mangle)]
 pub extern "C" fn jerovuha_list(file: &[u8], mode: u32, text: &mut [u8], answer: &mut Answer) -> u32
-    ensures value { (result, answer.new, text.new) ≡ answered (list_of file.now mode room blank_register text.old) }
+    ensures value { (result, answer.new, text.new) ≡ answered (list_of file.now mode enough blank_register text.old) }
     ensures fits { answer.new.length ≤ length text.new }
-    ensures told { result ≡ 0 → Told file.now room.gate_table mode (take answer.new.length text.new) }
+    ensures told { result ≡ 0 → Told file.now enough.gate_table mode (take answer.new.length text.new) }
 {
     let mut gate_table = [0u32; GATE_WORDS];
     let mut bits = [0u32; BIT_WORDS];
     let mut words = [Word::new(0); PLACES];
     let mut signals = [Ternary::Zero; PLACES];
     let mut register = [Entry { care: 0, value: 0 }; ENTRIES];
-    let memory = Memory {
+    let workspace = Workspace {
         gate_table: &mut gate_table,
         bits: &mut bits,
         words: &mut words,
         signals: &mut signals,
-        register: &mut register,
     };
-    *answer = match jobs::list(file, mode, memory, text) {
+    *answer = match jobs::list(file, mode, workspace, &mut register, text) {
         Ok(size) => Answer::success(size),
         Err(fault) => Answer::refusal(fault),
     };

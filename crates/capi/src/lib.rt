@@ -5,7 +5,6 @@
 
 mod answer;
 mod exported;
-mod sizes;
 
 pub use answer::Answer;
 pub use exported::jerovuha_list;

@@ -3,26 +3,16 @@
 
 ghost use Rattle.std.specs.Prelude.{◌≡◌, false, is_ok};
 
-use circuit::{Ternary, Word};
 use faults::JobFault;
-use inspection::{Memory, Summary, row_text};
-use shell::{BIT_WORDS, Failure, GATE_WORDS, PLACES, explain, read_file, refuse, status};
+use inspection::{Summary, row_text};
+use shell::{Failure, Memory, explain, read_file, refuse, status};
 use std::alloc::{AllocError, Global};
 use std::process::ExitCode;
 
 // A look at the file, with memory of its own.
 fn look(heap: Global, file: &[u8]) -> Result<Result<Summary, JobFault>, AllocError> {
-    let mut gate_table = vec![in heap; 0u32; GATE_WORDS]?;
-    let mut bits = vec![in heap; 0u32; BIT_WORDS]?;
-    let mut words = vec![in heap; Word::new(0); PLACES]?;
-    let mut signals = vec![in heap; Ternary::Zero; PLACES]?;
-    let memory = Memory {
-        gate_table: gate_table.as_mut_slice(),
-        bits: bits.as_mut_slice(),
-        words: words.as_mut_slice(),
-        signals: signals.as_mut_slice(),
-    };
-    Ok(inspection::inspect(file, memory))
+    let mut memory = Memory::new(heap)?;
+    Ok(inspection::inspect(file, memory.lend()))
 }
 
 fn show(rt: &HostRuntime, summary: Summary) -> Result<(), Failure> {

@@ -4,9 +4,7 @@
 #![tactic(auto)]
 
 mod looking;
-mod memory;
 mod summary;
 
 pub use looking::inspect;
-pub use memory::Memory;
 pub use summary::{Summary, row_text};

@@ -1,18 +1,20 @@
 // A first look at a file's circuit.
 ghost use Rattle.std.specs.Prelude.{◌≡◌, ◌/◌, false, not, length, if◌then◌else◌, None, is_ok, nat_le};
 ghost use Rattle.circuit.specs.Limits.{max_table_inputs};
+ghost use Rattle.circuit.specs.Netlists.{netlist};
 ghost use Rattle.listing.specs.Limits.{max_inputs};
 ghost use Rattle.listing.specs.Widest.{lead};
 ghost use Rattle.jobs.specs.Afterwards.{gates_after, search_asked, table_asked, table_made};
-ghost use Rattle.inspection.specs.Rooms.{job_room};
+ghost use Rattle.jobs.specs.Lists.{room_of};
 ghost use Rattle.inspection.specs.Inspections.{smallest_by, summary_of, counted_summary, searched_summary, circuit_summary, inspected};
 ghost use Rattle.search.specs.Searches.{made_of};
 ghost use Rattle.table.specs.Tables.{table_answer};
 
-use crate::{Memory, Summary};
+use crate::Summary;
 use circuit::{Circuit, MAX_TABLE_INPUTS, Ternary, Word, count_solutions};
 use cubes::{Decider, Row};
 use faults::{JobFault, TableFault};
+use jobs::Workspace;
 use listing::smallest_row;
 use search::{Made, Search};
 use table::Table;
@@ -30,8 +32,8 @@ fn smallest_in_table(
     bits: &mut [u32],
     words: &mut [Word],
 ) -> Result<Option<Row>, TableFault>
-    ensures value { result ≡ smallest_by (table_answer circuit.now.inputs circuit.now.gates.now (length bits.old) (length words.old)) (circuit.now.inputs, circuit.now.output, circuit.now.gates.now) }
-    ensures words { is_ok (table_answer circuit.now.inputs circuit.now.gates.now (length bits.old) (length words.old)) ≡ false → words.new ≡ words.old }
+    ensures value { result ≡ smallest_by (table_answer (netlist circuit.now) (length bits.old) (length words.old)) (netlist circuit.now) }
+    ensures words { is_ok (table_answer (netlist circuit.now) (length bits.old) (length words.old)) ≡ false → words.new ≡ words.old }
 {
     let (mut table, made) = Table::make(circuit, bits, words);
     made?;
@@ -40,7 +42,7 @@ fn smallest_in_table(
 
 // By a search of the rows.
 fn smallest_by_search(circuit: Circuit, signals: &mut [Ternary]) -> Result<Option<Row>, TableFault>
-    ensures { result ≡ smallest_by (made_of circuit.entry.inputs circuit.entry.gates.now (length signals.old)) (circuit.entry.inputs, circuit.entry.output, circuit.entry.gates.now) }
+    ensures { result ≡ smallest_by (made_of (netlist circuit.entry) (length signals.old)) (netlist circuit.entry) }
 {
     let Made {
         mut search,
@@ -51,7 +53,7 @@ fn smallest_by_search(circuit: Circuit, signals: &mut [Ternary]) -> Result<Optio
 }
 
 fn summary(circuit: &Circuit, solutions: Option<u32>, smallest: Option<Row>) -> Summary
-    ensures { result ≡ summary_of (circuit.now.inputs, circuit.now.output, circuit.now.gates.now) solutions smallest }
+    ensures { result ≡ summary_of (netlist circuit.now) solutions smallest }
 {
     Summary {
         inputs: circuit.inputs(),
@@ -67,8 +69,8 @@ fn with_table(
     bits: &mut [u32],
     words: &mut [Word],
 ) -> Result<Summary, TableFault>
-    ensures value { result ≡ counted_summary (circuit.now.inputs, circuit.now.output, circuit.now.gates.now) (length bits.old) (length words.old) }
-    ensures words { is_ok (table_answer circuit.now.inputs circuit.now.gates.now (length bits.old) (length words.old)) ≡ false → words.new ≡ words.old }
+    ensures value { result ≡ counted_summary (netlist circuit.now) (length bits.old) (length words.old) }
+    ensures words { is_ok (table_answer (netlist circuit.now) (length bits.old) (length words.old)) ≡ false → words.new ≡ words.old }
 {
     let smallest = smallest_in_table(circuit, bits, words)?;
     let count = count_solutions(circuit, words)?;
@@ -76,7 +78,7 @@ fn with_table(
 }
 
 fn with_search(circuit: Circuit, signals: &mut [Ternary]) -> Result<Summary, TableFault>
-    ensures { result ≡ searched_summary (circuit.entry.inputs, circuit.entry.output, circuit.entry.gates.now) (length signals.old) }
+    ensures { result ≡ searched_summary (netlist circuit.entry) (length signals.old) }
 {
     let smallest = smallest_by_search(circuit, signals)?;
     Ok(summary(&circuit, None, smallest))
@@ -89,9 +91,9 @@ fn look(
     words: &mut [Word],
     signals: &mut [Ternary],
 ) -> Result<Summary, TableFault>
-    ensures value { result ≡ circuit_summary (circuit.entry.inputs, circuit.entry.output, circuit.entry.gates.now) (length bits.old) (length words.old) (length signals.old) }
+    ensures value { result ≡ circuit_summary (netlist circuit.entry) (length bits.old) (length words.old) (length signals.old) }
     ensures bits { nat_le circuit.entry.inputs max_table_inputs ≡ false → bits.new ≡ bits.old }
-    ensures words { is_ok (table_answer circuit.entry.inputs circuit.entry.gates.now (length bits.old) (length words.old)) ≡ false → words.new ≡ words.old }
+    ensures words { is_ok (table_answer (netlist circuit.entry) (length bits.old) (length words.old)) ≡ false → words.new ≡ words.old }
     ensures signals { not (nat_le circuit.entry.inputs max_table_inputs) ≡ false → signals.new ≡ signals.old }
 {
     if circuit.inputs() <= MAX_TABLE_INPUTS {
@@ -102,20 +104,20 @@ fn look(
 
 // The circuit's numbers, the number of its solutions up to 16 inputs, and the smallest solution. Afterwards the gate table
 // holds what was read. Left open is only the memory of the decider that is asked for, as after a job. The clauses name the
-// fields of the memory at the return by place: .0 is the gate table, .1 what comes after it, and so on.
-pub fn inspect(file: &[u8], memory: Memory) -> Result<Summary, JobFault>
-    ensures value { result ≡ inspected file.now (record { gate_table = length memory.entry.gate_table.now; bits = length memory.entry.bits.now; words = length memory.entry.words.now; signals = length memory.entry.signals.now }) }
-    ensures gates { memory.exit.0.now ≡ gates_after file.now (job_room memory.entry) }
-    ensures bits { table_asked file.now (job_room memory.entry) ≡ false → memory.exit.1.0.now ≡ memory.entry.bits.now }
-    ensures words { table_made file.now (job_room memory.entry) ≡ false → memory.exit.1.1.0.now ≡ memory.entry.words.now }
-    ensures signals { search_asked file.now (job_room memory.entry) ≡ false → memory.exit.1.1.1.0.now ≡ memory.entry.signals.now }
+// fields of the workspace at the return by place: .0 is the gate table, .1 what comes after it, and so on.
+pub fn inspect(file: &[u8], workspace: Workspace) -> Result<Summary, JobFault>
+    ensures value { result ≡ inspected file.now (room_of workspace.entry) }
+    ensures gates { workspace.exit.0.now ≡ gates_after file.now (room_of workspace.entry) }
+    ensures bits { table_asked file.now (room_of workspace.entry) ≡ false → workspace.exit.1.0.now ≡ workspace.entry.bits.now }
+    ensures words { table_made file.now (room_of workspace.entry) ≡ false → workspace.exit.1.1.0.now ≡ workspace.entry.words.now }
+    ensures signals { search_asked file.now (room_of workspace.entry) ≡ false → workspace.exit.1.1.1.0.now ≡ workspace.entry.signals.now }
 {
-    let Memory {
+    let Workspace {
         gate_table,
         bits,
         words,
         signals,
-    } = memory;
+    } = workspace;
     let reading = aiger::read(file, gate_table)?;
     let circuit = Circuit::take_up(reading, gate_table);
     let summary = look(circuit, bits, words, signals)?;

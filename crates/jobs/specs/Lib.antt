@@ -1,3 +1,4 @@
 pub mod Lists
 pub mod Told
 pub mod Afterwards
+pub mod Sizes

@@ -7,7 +7,9 @@
 mod finishing;
 mod from_file;
 mod printing;
+mod sizes;
 mod workspace;
 
 pub use from_file::list;
+pub use sizes::{BIT_WORDS, ENTRIES, GATE_WORDS, PLACES};
 pub use workspace::Workspace;

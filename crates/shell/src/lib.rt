@@ -6,10 +6,10 @@
 mod failure;
 mod input;
 mod job;
+mod memory;
 mod program;
-mod sizes;
 
 pub use failure::{Failure, explain, refuse, status};
 pub use input::read_file;
+pub use memory::Memory;
 pub use program::run;
-pub use sizes::{BIT_WORDS, GATE_WORDS, PLACES};

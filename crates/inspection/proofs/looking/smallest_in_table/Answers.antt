@@ -1,5 +1,6 @@
-use Rattle.std.proofs.Common.{ℕ, ◌≤◌, List, is_ok, Result, ap, ◌∙◌}
+use Rattle.std.proofs.Common.{◌≤◌, is_ok, Result, ap, ◌∙◌}
 use Rattle.faults.specs.declared.table.TableFault.{TableFault}
+use Rattle.circuit.specs.Netlists.{netlist}
 use Rattle.listing.specs.Limits.{max_inputs}
 use Rattle.inspection.proofs.Smallest.{smallest_by_lem}
 use Rattle.inspection.proofs.looking.smallest_in_table.Goals as goal
@@ -7,7 +8,7 @@ use Rattle.inspection.proofs.looking.smallest_in_table.Goals as goal
 pub returns : goal.returns
 returns c =
     let circuit = c.args.circuit.now in
-    let numbers : ℕ × ℕ × List ℕ = (circuit.inputs, circuit.output, circuit.gates.now) in
+    let numbers = netlist circuit in
     let few : circuit.inputs ≤ max_inputs = circuit.ranged.1 in
     let e = c.make-made.ensures in
     record {

@@ -1,5 +1,5 @@
--- The work memory of the call for C: enough for every circuit within the limits.
---   room       its lengths
+-- How much a job needs.
+--   enough     a workspace for every circuit within the limits; the bits are those of the rows of 16 inputs
 --   register   512 entries, all words 0
 -- Assumes nothing.
 use Rattle.std.specs.Prelude.{ℕ, ◌+◌, ◌*◌, List, replicate}
@@ -8,9 +8,8 @@ use Rattle.cubes.specs.declared.entry.Entry.{Entry}
 use Rattle.cubes.specs.Cubes.{blank}
 use Rattle.jobs.specs.Lists.{Room}
 
--- the bits are those of the rows of 16 inputs
-abbrev pub room : Room
-room = record { gate_table = 2 * max_gates; bits = 2048; words = max_inputs + max_gates + 1; signals = max_inputs + max_gates + 1 }
+abbrev pub enough : Room
+enough = record { gate_table = 2 * max_gates; bits = 2048; words = max_inputs + max_gates + 1; signals = max_inputs + max_gates + 1 }
 
 -- the most cubes of a list
 abbrev pub entry_count : ℕ
