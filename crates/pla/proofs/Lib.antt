@@ -5,3 +5,4 @@ pub mod Parts
 pub mod Positions
 pub mod Stored
 pub mod Telling
+pub mod Writing

@@ -1,10 +1,11 @@
 -- Storing bytes in memory: one piece after another, from the start, and over a part.
-use Rattle.std.proofs.Common.{◌≡◌, ℕ, zero, suc, ◌+◌, ◌≤◌, List, [], ◌∷◌, ◌++◌, length, drop, set, sym, refl, ap, ◌∙◌, ap₂, arith}
+use Rattle.std.proofs.Common.{◌≡◌, ℕ, zero, suc, ◌+◌, ◌≤◌, List, [], ◌∷◌, ◌++◌, length, drop, set, sym, refl, ap, ◌∙◌, arith, length-set}
 use borrow.Rule.Slice.PartMut.{put_mid}
 use Rattle.pla.specs.Memory.{stored}
 
-pub stored_more : (t : List ℕ) (i x : ℕ) (xs : List ℕ) → stored (set t i x) (i + 1) xs ≡ stored t i (x ∷ xs)
-stored_more t i x xs = ap (λ j. stored (set t i x) j xs) (omega arith)
+pub length_stored : (t : List ℕ) (i : ℕ) (xs : List ℕ) → length (stored t i xs) ≡ length t
+length_stored t i [] = refl
+length_stored t i (x ∷ xs) = length_stored (set t i x) (suc i) xs ∙ length-set t i x
 
 pub stored_append : (t : List ℕ) (i : ℕ) (xs ys : List ℕ) → stored (stored t i xs) (i + length xs) ys ≡ stored t i (xs ++ ys)
 stored_append t i [] ys = ap (λ j. stored t j ys) (omega arith)
@@ -25,10 +26,3 @@ stored_part t zero xs h = sym (stored_front t xs (omega arith))
 stored_part [] (suc i) [] h = refl
 stored_part [] (suc i) (x ∷ xs) h = absurd (omega arith)
 stored_part (y ∷ t) (suc i) xs h = ap (λ r. y ∷ r) (stored_part t i xs (omega arith)) ∙ sym (stored_skip t i xs y)
-
--- three pieces, each from the place after the one before
-pub stored_three : (t : List ℕ) (i : ℕ) (a b c : List ℕ) {u v w : List ℕ} {j k : ℕ} → u ≡ stored t i a → j ≡ i + length a → v ≡ stored u j b → k ≡ j + length b → w ≡ stored v k c
-    → w ≡ stored t i (a ++ (b ++ c))
-stored_three t i a b c {u} {v} {w} {j} {k} after-a at_b after-b at_c after-c =
-    let last : stored v k c ≡ stored u j (b ++ c) = ap₂ (λ x y. stored x y c) after-b at_c ∙ stored_append u j b c in
-    after-c ∙ last ∙ ap₂ (λ x y. stored x y (b ++ c)) after-a at_b ∙ stored_append t i a (b ++ c)

@@ -2,3 +2,4 @@ pub mod Memory
 pub mod Printed
 pub mod Telling
 pub mod Text
+pub mod Writing

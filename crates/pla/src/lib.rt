@@ -5,12 +5,11 @@
 
 mod head;
 mod line;
-mod number;
-mod piece;
 mod position;
 mod printer;
 #[cfg(test)]
 mod tests;
 mod write;
+mod writer;
 
 pub use printer::print;

@@ -1,5 +1,5 @@
 // What a cube has at an input, and its PLA character.
-ghost use Rattle.std.specs.Prelude.{◌≡◌, ◌-◌, ◌≤◌};
+ghost use Rattle.std.specs.Prelude.{◌≡◌, ◌<◌};
 ghost use Rattle.listing.specs.Limits.{max_inputs};
 ghost use Rattle.pla.specs.Text.{character_of, position_at};
 
@@ -13,13 +13,11 @@ pub enum Position {
 }
 
 impl Position {
-    // The cube's position at an input, input 1 being the highest of the n bits. The value's bit at an open input does not matter.
-    pub fn of(cube: Cube, n: u32, input: u32) -> Position
-        requires few { n ≤ max_inputs }
-        requires counted { (1 ≤ input) × (input ≤ n) }
-        ensures { result ≡ position_at cube.care cube.value (n - input) }
+    // The cube's position at the input of a bit. The value's bit at an open input does not matter.
+    pub fn of(cube: Cube, bit: u32) -> Position
+        requires { bit < max_inputs }
+        ensures { result ≡ position_at cube.care cube.value bit }
     {
-        let bit = n - input;
         if (cube.care() >> bit) % 2 == 0 {
             Position::Open
         } else if (cube.value() >> bit) % 2 == 0 {

@@ -19,10 +19,7 @@ pub fn print(finished: &Finished, register: &[Entry], text: &mut [u8]) -> Result
     if register.len() < held {
         return Err(Fault::Listing(ListingFault::RegisterShort(held)));
     }
-    match write_list(finished.inputs(), &register[first..held], text) {
-        Ok(length) => Ok(length),
-        Err(fault) => Err(Fault::Table(fault)),
-    }
+    write_list(finished.inputs(), &register[first..held], text).map_err(Fault::Table)
 }
 
 // The laws of the text, which stand on the contract of `print`.

@@ -1,13 +1,11 @@
 // The whole text: the head, a line a cube, and the end.
-ghost use Rattle.std.specs.Prelude.{◌≡◌, ◌+◌, ◌^◌, ◌<◌, ◌≤◌, List, length, codes};
-ghost use Rattle.cubes.specs.declared.entry.Entry.{Entry as Listed};
+ghost use Rattle.std.specs.Prelude.{◌≡◌, ◌^◌, ◌<◌, ◌≤◌, length};
 ghost use Rattle.listing.specs.Limits.{max_inputs};
-ghost use Rattle.pla.specs.Memory.{stored};
-ghost use Rattle.pla.specs.Text.{text_of, written};
+ghost use Rattle.pla.specs.Text.{written};
 
-use crate::head::{head_length, put_head};
-use crate::line::{OUTPUT, put_cubes};
-use crate::piece::put;
+use crate::head::{HEAD_BYTES, write_head};
+use crate::line::{OUTPUT, write_cube};
+use crate::writer::Writer;
 use cubes::Entry;
 use faults::TableFault;
 
@@ -19,28 +17,17 @@ pub fn write_list(n: u32, cubes: &[Entry], text: &mut [u8]) -> Result<usize, Tab
     requires counted { length cubes.now < 2 ^ 32 }
     ensures { (result, text.new) ≡ written n cubes.now text.old }
 {
-    let needed = text_length(n, cubes.len());
+    let mut memory = [0; HEAD_BYTES];
+    let head = write_head(n, cubes.len(), &mut memory);
+    let needed = head.len() + cubes.len() * (n as usize + OUTPUT.len()) + END.len();
     if text.len() < needed {
         return Err(TableFault::TextShort(needed));
     }
-    let first = put_head(text, n, cubes.len());
-    let last = put_cubes(text, first, n, cubes);
-    Ok(put_end(text, last))
-}
-
-fn put_end(text: &mut [u8], at: usize) -> usize
-    requires room { at + 3 ≤ length text.old }
-    ensures place { result ≡ at + 3 }
-    ensures after { text.new ≡ stored text.old at (codes ".e\n") }
-{
-    put(text, at, END)
-}
-
-fn text_length(n: u32, count: usize) -> usize
-    requires few { n ≤ max_inputs }
-    requires counted { count < 2 ^ 32 }
-    ensures { (cubes : List Listed) → length cubes ≡ count → result ≡ length (text_of n cubes) }
-{
-    let line = n as usize + OUTPUT.len();
-    head_length(n, count) + count * line + END.len()
+    let mut writer = Writer::new(text);
+    writer.write(head);
+    for entry in cubes {
+        write_cube(&mut writer, n, entry.cube());
+    }
+    writer.write(END);
+    Ok(needed)
 }
