@@ -2,19 +2,14 @@
 use Rattle.std.proofs.Common.{◌≡◌, ℕ, zero, suc, ◌+◌, ◌-◌, ◌/◌, ◌%◌, ◌^◌, ◌<◌, ◌≤◌, true, cond, eqb, ltb, ◌↔◌, get_or, sym, refl, ap, ◌∙◌, subst, inl, inr, ⊎_elim, arith}
 use lib.Bits.{bit_and, and_zero_r, and_le_r}
 use Rattle.std.proofs.lemmas.Bool.{and_parts, and_from, eqb-true, eq-eqb, lt-ltb}
+use Rattle.std.proofs.lemmas.Nat.Bits.{same_from_bits_below}
 use Rattle.cubes.specs.declared.entry.Entry.{Entry}
 use Rattle.cubes.specs.Cubes.{care_of, value_of, holds}
 use Rattle.cubes.proofs.Bits.{and_digit}
 use Rattle.pla.specs.declared.position.Position.TheVariants.{Zero, One, Open}
 use Rattle.pla.specs.Telling.{CubeOf, Fits, Matches}
-use Rattle.pla.specs.Text.{character_of, position_at, cube_line, line_of}
-use Rattle.pla.proofs.Positions.{same_bits, inside_bit}
-
--- the character of bit b stands j places behind the first
-line_at : (n c v j b : ℕ) → j + suc b ≡ n → get_or (cube_line n c v) j 0 ≡ character_of (position_at c v b)
-line_at zero c v j b e = absurd (omega arith)
-line_at (suc n) c v zero b e = let same : n ≡ b = omega arith in ap (λ k. character_of (position_at c v k)) same
-line_at (suc n) c v (suc j) b e = line_at n c v j b (omega arith)
+use Rattle.pla.specs.Text.{character_of, position_at, line_of}
+use Rattle.pla.proofs.Positions.{line_at, inside_bit}
 
 -- the bits of care, value and row at one input
 fits_bit : (x y z : ℕ) → x < 2 → y ≤ x → z < 2 → (bit_and z x ≡ y) ↔ Fits (character_of (cond (eqb x 0) Open (cond (eqb y 0) Zero One))) z
@@ -53,5 +48,5 @@ module _ (n : ℕ) (cube : Entry) (row : ℕ) (p : CubeOf n cube) where
       (at_bit b).1 (subst P (line_at n (care_of cube) (value_of cube) (n - b - 1) b place) (subst Q same (m (n - b) (omega arith) (omega arith)))) in
       let low = and_le_r row (care_of cube) in
       let inner = and_le_r (value_of cube) (care_of cube) in
-      let whole : bit_and row (care_of cube) ≡ value_of cube = same_bits n _ _ (omega arith) (omega (arith, p.inside)) bit in
+      let whole : bit_and row (care_of cube) ≡ value_of cube = same_from_bits_below n _ _ (omega arith) (omega (arith, p.inside)) bit in
       and_from (ltb row (2 ^ n)) _ (lt-ltb row (2 ^ n) below) (eq-eqb _ _ whole)

@@ -1,6 +1,7 @@
 -- The text tells the number of inputs and the list, line by line.
-use Rattle.std.proofs.Common.{◌≡◌, ℕ, ◌<◌, ◌≤◌, ◌≢◌, List, [], ◌∷◌, ◌++◌, map, length, get_or, codes, decimal, sym, refl, ap, ◌∙◌, subst, ap₂, arith}
-use Rattle.std.specs.List.{flat_map}
+use Rattle.std.proofs.Common.{◌≡◌, ℕ, ◌<◌, ◌≤◌, true, List, [], ◌∷◌, ◌++◌, map, length, get_or, codes, decimal, sym, refl, ap, ◌∙◌, subst, ap₂, arith}
+use Rattle.std.specs.List.{flat_map, list_all}
+use Rattle.std.proofs.lemmas.Bool.{and_from}
 use Rattle.std.proofs.lemmas.Fmt.{decimal_injective}
 use Rattle.std.proofs.lemmas.List.{append_cancel_left, append_cancel_right, length-map, get_or-map, ext_get_or}
 use Rattle.cubes.specs.declared.entry.Entry.{Entry}
@@ -8,45 +9,31 @@ use Rattle.cubes.specs.Cubes.{care_of, value_of, blank}
 use Rattle.listing.specs.Limits.{max_inputs}
 use Rattle.pla.specs.declared.position.Position.{Position}
 use Rattle.pla.specs.declared.position.Position.TheVariants.{Zero, One, Open}
-use Rattle.pla.specs.Telling.{CubeOf, CubesOf, Alike, TextTells}
+use Rattle.pla.specs.Telling.{CubesOf, Alike, TextTells}
 use Rattle.pla.specs.Text.{character_of, positions, cube_line, line_of, ended, head_lines, lines_of, text_of}
-use Rattle.pla.proofs.Breaks.{Whole, AllWhole, whole_append, whole_literal, decimal_whole, same_lines}
+use Rattle.pla.proofs.Breaks.{whole, whole_append, decimal_whole, same_lines}
 use Rattle.pla.proofs.Matching.{row_matches, match_holds}
-use Rattle.pla.proofs.Positions.{same_positions, same_care, same_value}
+use Rattle.pla.proofs.Positions.{line_care, line_value}
 
 -- ---- no line has a byte 10 inside
 
-character_whole : (p : Position) → character_of p ≢ 10
-character_whole Zero e = omega arith
-character_whole One e = omega arith
-character_whole Open e = omega arith
+characters_whole : (ps : List Position) → whole (map character_of ps) ≡ true
+characters_whole [] = refl
+characters_whole (Zero ∷ ps) = characters_whole ps
+characters_whole (One ∷ ps) = characters_whole ps
+characters_whole (Open ∷ ps) = characters_whole ps
 
-characters_whole : (ps : List Position) → Whole (map character_of ps)
-characters_whole [] = tt
-characters_whole (p ∷ ps) = (character_whole p, characters_whole ps)
-
-cubes_whole : (n : ℕ) (cubes : List Entry) → AllWhole (map (line_of n) cubes ++ codes ".e" ∷ [])
-cubes_whole n [] = (whole_literal (codes ".e") refl, tt)
+cubes_whole : (n : ℕ) (cubes : List Entry) → list_all whole (map (line_of n) cubes ++ codes ".e" ∷ []) ≡ true
+cubes_whole n [] = refl
 cubes_whole n (e ∷ es) =
-    (whole_append _ (codes " 1") (characters_whole (positions n (care_of e) (value_of e))) (whole_literal (codes " 1") refl), cubes_whole n es)
+    let ps = positions n (care_of e) (value_of e) in
+    and_from _ _ (whole_append (map character_of ps) (codes " 1") (characters_whole ps) refl) (cubes_whole n es)
 
-lines_whole : (n : ℕ) (cubes : List Entry) → AllWhole (lines_of n cubes)
+lines_whole : (n : ℕ) (cubes : List Entry) → list_all whole (lines_of n cubes) ≡ true
 lines_whole n cubes =
-    let inputs = whole_append (codes ".i ") (decimal n) (whole_literal (codes ".i ") refl) (decimal_whole n) in
-    let count = whole_append (codes ".p ") (decimal (length cubes)) (whole_literal (codes ".p ") refl) (decimal_whole (length cubes)) in
-    (inputs, (whole_literal (codes ".o 1") refl, (count, cubes_whole n cubes)))
+    and_from _ _ (whole_append (codes ".i ") (decimal n) refl (decimal_whole n)) (and_from _ _ (whole_append (codes ".p ") (decimal (length cubes)) refl (decimal_whole (length cubes))) (cubes_whole n cubes))
 
 -- ---- what equal lines tell
-
-module _ (n : ℕ) (x y : Entry) (p : CubeOf n x) (q : CubeOf n y) (e : line_of n x ≡ line_of n y) where
-  alike_positions : map character_of (positions n (care_of x) (value_of x)) ≡ map character_of (positions n (care_of y) (value_of y))
-  alike_positions = append_cancel_right _ _ (codes " 1") e
-
-  pub line_care : care_of x ≡ care_of y
-  line_care = same_care n _ _ _ _ p.below q.below (same_positions n _ _ _ _ alike_positions)
-
-  pub line_value : value_of x ≡ value_of y
-  line_value = same_value n (care_of x) _ (care_of y) _ p.below q.below p.inside q.inside (same_positions n _ _ _ _ alike_positions)
 
 alike_lines : (n : ℕ) (xs ys : List Entry) → CubesOf n xs → CubesOf n ys → map (line_of n) xs ≡ map (line_of n) ys → Alike xs ys
 alike_lines n xs ys p q e =

@@ -4,10 +4,10 @@ ghost use Rattle.pla.specs.Text.{head};
 
 use crate::writer::Writer;
 
-// The head of the longest numbers.
+// 13 bytes, and two numbers of at most 20 digits.
 pub const HEAD_BYTES: usize = 53;
 
-// The head, which is written into memory of its own.
+// The head, written into memory of its own, since it alone has no length that is known before it is written.
 #[tactic(auto, using(crate::proofs::Decimals::length_most))]
 pub fn write_head(n: u32, count: usize, memory: &mut [u8; HEAD_BYTES]) -> &[u8]
     ensures { result.now ≡ head n count }

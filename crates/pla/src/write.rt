@@ -12,6 +12,7 @@ use faults::TableFault;
 const END: &[u8; 3] = b".e\n";
 
 // Writes the text of a list of cubes of `n` inputs, or refuses if it does not fit.
+#[tactic(auto, using(crate::proofs::Parts::length_rest))]
 pub fn write_list(n: u32, cubes: &[Entry], text: &mut [u8]) -> Result<usize, TableFault>
     requires few { n ≤ max_inputs }
     requires counted { length cubes.now < 2 ^ 32 }

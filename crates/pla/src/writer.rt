@@ -33,7 +33,8 @@ impl<'a> Writer<'a> {
         self.at += 1;
     }
 
-    // In decimal.
+    // In decimal. By hand: `write!` may fail, and no contract of std says when it does not.
+    #[tactic(auto, using(crate::proofs::Decimals::length_one, crate::proofs::Decimals::length_step))]
     pub fn write_number(&mut self, number: usize)
         requires { Fits self.old (decimal number) }
         ensures { Wrote self.old (decimal number) self.new }

@@ -1,8 +1,6 @@
-use Rattle.std.proofs.Common.{◌++◌, drop, codes}
-use Rattle.pla.specs.Text.{cube_lines}
+use Rattle.pla.proofs.Parts.{lines_from}
 use Rattle.pla.proofs.Writing.{Left}
 use Rattle.pla.proofs.write.write_list.Given as goal
 
 abbrev pub invariant-loop-entry : goal.invariant-loop-entry
-invariant-loop-entry l =
-    Left l.initial.writer (cube_lines l.n l.cubes ++ codes ".e\n") l.writer (cube_lines l.n (drop l.entry-index l.cubes) ++ codes ".e\n")
+invariant-loop-entry l = Left l.initial.writer (lines_from l.n l.cubes 0) l.writer (lines_from l.n l.cubes l.entry-index)

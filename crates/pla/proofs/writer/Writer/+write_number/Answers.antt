@@ -2,17 +2,9 @@ use Rattle.std.proofs.Common.{◌≡◌, ◌%◌, ◌+◌, ◌<◌, ◌∷◌, [
 use Rattle.std.proofs.lemmas.Fmt.{decimal_digit, decimal_step}
 use Rattle.pla.specs.declared.writer.Writer.{Writer}
 use Rattle.pla.specs.Writing.{Wrote}
-use Rattle.pla.proofs.Decimals.{length_one, length_step}
 use Rattle.pla.proofs.Writing.{wrote_more}
 use Rattle.pla.proofs.writer.Writer.+write_number.Goals as goal
 use Rattle.pla.proofs.writer.Writer.+write_number.Goals.{then-number-ge10, else-number-ge10}
-
-pub write_number-requires : goal.write_number-requires
-write_number-requires t c = (omega arith, omega (arith, length_step c.args.number))
-
-pub push-requires : goal.push-requires
-push-requires t c =
-    elim c.if-number-ge10.branch [ then-number-ge10 w ↦ rw w.self-is (omega (arith, length_step c.args.number)) | else-number-ge10 w ↦ rw w.self-is (omega (arith, length_one c.args.number)) ]
 
 pub returns : goal.returns
 returns t c =
