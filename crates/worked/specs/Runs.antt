@@ -13,7 +13,7 @@ use Rattle.faults.specs.Reports.{circuit_report, listing_report, table_report}
 use Rattle.circuit.specs.declared.ternary.Ternary.{Ternary}
 use Rattle.circuit.specs.declared.ternary.Ternary.TheVariants.{Zero, One, Unknown}
 use Rattle.circuit.specs.Kinds.{ternary_ops}
-use Rattle.circuit.specs.Circuits.{taken_up}
+use Rattle.circuit.specs.Circuits.{Netlist, taken_up}
 use Rattle.circuit.specs.Solutions.{solves}
 use Rattle.circuit.specs.Answers.{evaluated}
 use Rattle.aiger.specs.Lines.{up}
@@ -38,10 +38,10 @@ file (line ∷ lines) = codes line ++ 10 ∷ file lines
 abbrev pub table_words : ℕ
 table_words = 8
 
-abbrev pub taken : Answer → Result (ℕ × ℕ × List ℕ) CircuitFault
+abbrev pub taken : Answer → Result Netlist CircuitFault
 taken answer = up (λ fault. fault) answer.1 (λ reading. Ok (taken_up reading answer.0))
 
-abbrev pub circuit_in : List ℕ → Result (ℕ × ℕ × List ℕ) CircuitFault
+abbrev pub circuit_in : List ℕ → Result Netlist CircuitFault
 circuit_in bytes = taken (read_of bytes table_words)
 
 -- ---- cubes as text
@@ -76,7 +76,7 @@ signals (c ∷ cs) = cond (is_open c) Unknown (cond (is_one c) One Zero) ∷ sig
 abbrev pub three_valued : List ℕ → String → Result Ternary Report
 three_valued bytes text =
     up circuit_report (circuit_in bytes)
-    (λ c. up table_report (evaluated ternary_ops c.0 c.1 c.2 (Zero ∷ signals (codes text) ++ replicate (length c.2) Zero)) Ok)
+    (λ c. up table_report (evaluated ternary_ops c (Zero ∷ signals (codes text) ++ replicate (length c.gates) Zero)) Ok)
 
 -- ---- runs
 
@@ -110,10 +110,10 @@ nexts (suc further) k inputs solutions l register =
     (λ step. stepped (k + 1) call.1 step (λ more. nexts further (k + 1) inputs solutions more call.1))
 
 -- every next but the last lists a cube, so that one next more than there are entries is enough
-abbrev pub lists : (ℕ × ℕ × List ℕ) → ℕ → List String → List Entry → Outcome
+abbrev pub lists : Netlist → ℕ → List String → List Entry → Outcome
 lists c mode texts register =
-    after listing_report 0 register (opened mode c.0)
-    (λ d. waives texts d register (λ w front. nexts (length register + 1) 0 c.0 (solves c.0 c.1 c.2) (begun w) front))
+    after listing_report 0 register (opened mode c.inputs)
+    (λ d. waives texts d register (λ w front. nexts (length register + 1) 0 c.inputs (solves c) (begun w) front))
 
 -- the run of a file in a mode, with these waivers, in a register of so many entries
 abbrev pub run : List ℕ → ℕ → List String → ℕ → Outcome
