@@ -1,7 +1,8 @@
 -- One gate more, and the value table that the evaluator leaves.
-use Rattle.std.proofs.Common.{◌≡◌, ℕ, ◌+◌, ◌-◌, ◌*◌, ◌/◌, ◌<◌, List, [], ◌∷◌, ◌++◌, length, get_or, take, drop, set, sym, ap, ◌∙◌, append-nil, add-one, arith, take-append-drop}
+use Rattle.std.proofs.Common.{◌≡◌, ℕ, zero, suc, ◌+◌, ◌-◌, ◌*◌, ◌/◌, ◌<◌, List, [], ◌∷◌, ◌++◌, length, get_or, take, drop, set, sym, ap, ◌∙◌, append-nil, add-one, arith, take-append-drop}
 use borrow.Rule.Slice.PartMut.{put_mid, post_of}
-use Rattle.std.proofs.lemmas.List.{get_or-take, get_or_append_left, length-append, length-take, take_more_set, drop_more, take_rest, drop-set-add, take-set-le, drop-set-lt, drop_all, length-drop}
+use Rattle.std.proofs.lemmas.List.{get_or-take, get_or-drop, get_or_append_left, length-append, length-take, take_more_set, drop_more, take_rest, drop-set-add, take-set-le, drop-set-lt, drop_all, length-drop}
+use Rattle.std.specs.Simd.{first_chunks}
 use Rattle.circuit.specs.Kinds.{Ops}
 use Rattle.circuit.specs.Circuits.{Netlist, highest, either, literal, grown, variables}
 use Rattle.circuit.specs.Answers.{table_with, output_of}
@@ -15,6 +16,20 @@ stored vs part first k v h e =
     let front : take first vs ≡ take first whole = sym (take-set-le first vs (first + k) v (omega arith)) in
     let none : post_of first (length vs - first) vs ≡ [] = drop_all (length vs - first) (drop first vs) (simp length-drop (omega arith)) in
     (λ i. front i ++ (back i ++ none i)) ∙ ap (λ l. take first whole ++ l) (append-nil _) ∙ take-append-drop first whole
+
+-- the gates' words by pairs
+pub pair_at : (gates : List ℕ) (n k j : ℕ) → k < n → j < 2 → get_or (get_or (first_chunks 2 n gates) k []) j 0 ≡ get_or gates (2 * k + j) 0
+pair_at gates zero k j h l = absurd (omega arith)
+pair_at gates (suc n) zero j h l = let e : j ≡ 2 * 0 + j = omega arith in get_or-take 2 gates j 0 l ∙ ap (λ i. get_or gates i 0) e
+pair_at gates (suc n) (suc k) j h l =
+    let e : 2 + (2 * k + j) ≡ 2 * suc k + j = omega arith in
+    pair_at (drop 2 gates) n k j (omega arith) l ∙ get_or-drop 2 gates (2 * k + j) 0 ∙ ap (λ i. get_or gates i 0) e
+
+pub pair_below : (gates : List ℕ) (pairs : List (List ℕ)) (first k j : ℕ) → pairs ≡ first_chunks 2 (length gates / 2) gates → k < length gates / 2 → j < 2
+    → ((i : ℕ) → i < length gates → get_or gates i 0 < 2 * (first + i / 2)) → get_or (get_or pairs k []) j 0 / 2 < first + k
+pair_below gates pairs first k j is h l b =
+    let e : get_or (get_or pairs k []) j 0 ≡ get_or gates (2 * k + j) 0 = ap (λ p. get_or (get_or p k []) j 0) is ∙ pair_at gates (length gates / 2) k j h l in
+    omega (arith, b (2 * k + j) (omega arith))
 
 module _ {X : Type 0} (o : Ops X) where
   pub gate_more : (gates : List ℕ) (vs : List X) (j k : ℕ) (v : X) → 2 * k + 1 < length gates → j < length vs

@@ -39,9 +39,10 @@ fn fill<V: Value>(gates: &[u32], first: usize, values: &mut [V])
     requires below { (k : ℕ) → k < length gates.now → slice_index gates.now k < 2 * (first + k / 2) }
     ensures { values.new ≡ grown V.ops gates.now (take first values.old) ++ drop (first + length gates.now / 2) values.old }
 {
-    for k in 0..gates.len() / 2 {
-        let left = operand(values, gates[2 * k]);
-        let right = operand(values, gates[2 * k + 1]);
+    let (pairs, _) = gates.as_chunks::<2>();
+    for (k, pair) in pairs.iter().enumerate() {
+        let left = operand(values, pair[0]);
+        let right = operand(values, pair[1]);
         store(&mut values[first..], k, left.and(right));
     }
 }
