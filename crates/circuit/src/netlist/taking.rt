@@ -20,7 +20,7 @@ impl<'a> Circuit<'a> {
             && output <= 2 * (inputs + reading.gates) + 1
             && words <= table.len()
         {
-            let gates = &table[0..words];
+            let gates = &table[..words];
             if in_order(inputs, gates) {
                 return Circuit {
                     inputs,
@@ -43,10 +43,5 @@ fn in_order(inputs: u32, gates: &[u32]) -> bool
     ensures value { result ≡ ordered inputs 0 gates.now }
     ensures below { result ≡ true → (k : ℕ) → k < length gates.now → slice_index gates.now k < 2 * (inputs + 1 + k / 2) }
 {
-    for (k, operand) in gates.iter().enumerate() {
-        if *operand >= 2 * (inputs + 1 + (k / 2) as u32) {
-            return false;
-        }
-    }
-    true
+    gates.iter().enumerate().all(|(k, operand)| *operand < 2 * (inputs + 1 + (k / 2) as u32))
 }
