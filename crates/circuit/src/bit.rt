@@ -27,7 +27,7 @@ impl Bit {
 impl Value for Bit {
     const LANES: u32 = 1;
 
-    ghost lanes = { 1 };
+    ghost LANES = { 1 };
 
     ghost may = { bit_allows };
 
@@ -46,10 +46,6 @@ impl Value for Bit {
     ghost stays = { Prim.search rules };
 
     ghost turns = { Prim.search rules };
-
-    fn lane_count() -> u32 {
-        Self::LANES
-    }
 
     fn falsity() -> Bit {
         Bit { on: false }

@@ -52,8 +52,8 @@ pub fn evaluate<V: Value>(circuit: &Circuit, values: &mut [V]) -> Result<V, Tabl
     ensures value { result ≡ evaluated V.ops (netlist circuit.now) values.old }
     ensures after { values.new ≡ table_after V.ops (netlist circuit.now) values.old }
     ensures consistent { IfOk result (Consistent V.ops (netlist circuit.now) values.new) }
-    ensures sound { IfOk result (Sound V.lanes V.may (netlist circuit.now) (inputs_of V.ops.falsity circuit.now.inputs values.old)) }
-    ensures settled { IfOk result (Settles V.lanes V.may circuit.now.inputs (inputs_of V.ops.falsity circuit.now.inputs values.old)) }
+    ensures sound { IfOk result (Sound V.LANES V.may (netlist circuit.now) (inputs_of V.ops.falsity circuit.now.inputs values.old)) }
+    ensures settled { IfOk result (Settles V.LANES V.may circuit.now.inputs (inputs_of V.ops.falsity circuit.now.inputs values.old)) }
 {
     circuit.check_places(values.len())?;
     values[0] = V::falsity();

@@ -14,7 +14,7 @@ pub enum Ternary {
 impl Value for Ternary {
     const LANES: u32 = 1;
 
-    ghost lanes = { 1 };
+    ghost LANES = { 1 };
 
     ghost may = { ternary_allows };
 
@@ -33,10 +33,6 @@ impl Value for Ternary {
     ghost stays = { Prim.search rules };
 
     ghost turns = { Prim.search rules };
-
-    fn lane_count() -> u32 {
-        Self::LANES
-    }
 
     fn falsity() -> Ternary {
         Ternary::Zero

@@ -6,7 +6,7 @@ pub trait Value: Copy {
     // How many rows a value carries at once.
     const LANES: u32;
 
-    ghost lanes: { ℕ };
+    ghost LANES: { ℕ };
 
     // Which bits a value allows in a lane.
     ghost may: { Self → ℕ → Bool → Bool };
@@ -15,7 +15,10 @@ pub trait Value: Copy {
     ghost ops: { Ops Self };
 
     fn lane_count() -> u32
-        ensures { result ≡ lanes };
+        ensures { result ≡ LANES }
+    {
+        Self::LANES
+    }
 
     fn falsity() -> Self
         ensures { result ≡ ops.falsity };
@@ -28,19 +31,19 @@ pub trait Value: Copy {
 
     // The settled bit of a lane; nothing where it is not settled, or there is no such lane.
     fn look(self, lane: u32) -> Option<bool>
-        ensures { result ≡ looked lanes (may self) lane };
+        ensures { result ≡ looked LANES (may self) lane };
 
-    ghost some: { (u : Self) (k : ℕ) → k < lanes → (may u k false || may u k true) ≡ true };
+    ghost some: { (u : Self) (k : ℕ) → k < LANES → (may u k false || may u k true) ≡ true };
 
-    ghost nothing: { (k : ℕ) → k < lanes → (may ops.falsity k false ≡ true) × (may ops.falsity k true ≡ false) };
+    ghost nothing: { (k : ℕ) → k < LANES → (may ops.falsity k false ≡ true) × (may ops.falsity k true ≡ false) };
 
-    ghost joins: { (u w : Self) (k : ℕ) (p q : Bool) → k < lanes → may u k p ≡ true → may w k q ≡ true → may (ops.both u w) k (p && q) ≡ true };
+    ghost joins: { (u w : Self) (k : ℕ) (p q : Bool) → k < LANES → may u k p ≡ true → may w k q ≡ true → may (ops.both u w) k (p && q) ≡ true };
 
-    ghost flips: { (u : Self) (k : ℕ) (p : Bool) → k < lanes → may u k p ≡ true → may (ops.inverse u) k (not p) ≡ true };
+    ghost flips: { (u : Self) (k : ℕ) (p : Bool) → k < LANES → may u k p ≡ true → may (ops.inverse u) k (not p) ≡ true };
 
     ghost commutes: { (u w : Self) → ops.both u w ≡ ops.both w u };
 
-    ghost stays: { (u w : Self) (k : ℕ) → k < lanes → Settled (may u k) → Settled (may w k) → Settled (may (ops.both u w) k) };
+    ghost stays: { (u w : Self) (k : ℕ) → k < LANES → Settled (may u k) → Settled (may w k) → Settled (may (ops.both u w) k) };
 
-    ghost turns: { (u : Self) (k : ℕ) → k < lanes → Settled (may u k) → Settled (may (ops.inverse u) k) };
+    ghost turns: { (u : Self) (k : ℕ) → k < LANES → Settled (may u k) → Settled (may (ops.inverse u) k) };
 }
