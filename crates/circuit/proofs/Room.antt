@@ -1,9 +1,16 @@
--- What an answer tells of the value table's room.
-use Rattle.std.proofs.Common.{◌≡◌, ℕ, ◌<◌, Bool, true, false, ltb, Ok, Result, sym, refl, ap, ◌∙◌}
-use Rattle.std.proofs.lemmas.Bool.{ltb-true, cond-true, cond-false}
+-- Answers where the value table has room, and what an answer tells of it.
+use Rattle.std.proofs.Common.{◌≡◌, ℕ, ◌<◌, Bool, true, false, ltb, List, length, Ok, Result, sym, refl, ap, ◌∙◌}
+use Rattle.std.proofs.lemmas.Bool.{lt-ltb, ltb-true, cond-true, cond-false}
 use Rattle.faults.specs.declared.table.TableFault.{TableFault}
+use Rattle.circuit.specs.Kinds.{Ops}
 use Rattle.circuit.specs.Circuits.{Netlist, highest}
-use Rattle.circuit.specs.Answers.{with_room}
+use Rattle.circuit.specs.Answers.{with_room, table_with, after_with}
+
+pub given : {X : Type 0} (c : Netlist) (places : ℕ) (x : X) → highest c < places → Ok x ≡ with_room c places x
+given c places x h = sym (cond-true _ _ _ (lt-ltb _ _ h))
+
+pub written : {X : Type 0} (o : Ops X) (c : Netlist) (held vs : List X) → highest c < length vs → table_with o c held vs ≡ after_with o c held vs
+written o c held vs h = sym (cond-true _ _ _ (lt-ltb _ _ h))
 
 -- an answer is given only where there is room
 pub has_room : {X : Type 0} (c : Netlist) (places : ℕ) (x y : X) → Ok x ≡ with_room c places y → highest c < places

@@ -1,12 +1,12 @@
 use Rattle.std.proofs.Common.{◌≡◌, ◌+◌, ◌/◌, ◌<◌, true, ◌++◌, length, take, drop, set, is_some, Ok, sym, ap, ◌∙◌, subst, ap₂, arith}
 use Rattle.std.proofs.lemmas.List.{length-take, length-drop}
-use Rattle.std.proofs.lemmas.Bool.{lt-ltb, cond-true}
 use Rattle.circuit.specs.Kinds.{Settled, only}
 use Rattle.circuit.specs.Circuits.{highest, literal, grown}
 use Rattle.circuit.specs.Netlists.{netlist}
 use Rattle.circuit.specs.Solutions.{solves}
 use Rattle.circuit.specs.Answers.{table_with, output_of}
 use Rattle.circuit.proofs.Gates.{table_is, output_is}
+use Rattle.circuit.proofs.Room.{given, written}
 use Rattle.circuit.proofs.Consistent.{consistent}
 use Rattle.circuit.proofs.Carried.{carried}
 use Rattle.circuit.proofs.evaluator.evaluate.Goals as goal
@@ -28,8 +28,8 @@ returns g c =
     let is : c.operand.result ≡ output_of o circuit vs =
     c.operand.ensures ∙ ap₂ (literal o) last c.output.ensures ∙ output_is o circuit vs room out in
     record {
-      value = ap Ok is ∙ sym (cond-true _ _ _ (lt-ltb _ _ room));
-      after = last ∙ sym (cond-true _ _ _ (lt-ltb _ _ room));
+      value = ap Ok is ∙ given circuit _ _ room;
+      after = last ∙ written o circuit (take n (drop 1 vs)) vs room;
       consistent = consistent o circuit (take n (drop 1 vs)) (drop (n + 1 + length gates / 2) vs) c.fill.new.values c.operand.result
           (simp (length-take, length-drop) (omega arith)) c.args.circuit.now.below last (c.operand.ensures ∙ ap (literal o c.fill.new.values) c.output.ensures);
       sound = λ row lane h a.
