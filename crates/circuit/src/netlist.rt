@@ -50,10 +50,6 @@ impl<'a> Circuit<'a> {
     pub fn word_count(&self) -> u32
         ensures { result ≡ words self.now.inputs }
     {
-        if self.inputs <= LANE_PLACES {
-            1
-        } else {
-            1 << (self.inputs - LANE_PLACES)
-        }
+        1 << self.inputs.saturating_sub(LANE_PLACES)
     }
 }
