@@ -43,8 +43,8 @@ pub record Consistent {X : Type 0} (o : Ops X) (c : Netlist) (vs : List X) (v : 
   pub out : v ≡ literal o vs c.output
 
 -- what the inputs' places of the value table hold, by the place of the input's bit in a row
-abbrev pub inputs_of : {X : Type 0} → X → ℕ → List X → ℕ → X
-inputs_of falsity inputs vs k = slice_index_or vs (inputs - k) falsity
+abbrev pub input_values : {X : Type 0} → X → ℕ → List X → ℕ → X
+input_values falsity inputs vs k = slice_index_or vs (inputs - k) falsity
 
 -- in this lane the inputs' values allow the row's bits
 abbrev pub AllowsRow : {X : Type 0} → (X → ℕ → Bool → Bool) → ℕ → (ℕ → X) → ℕ → ℕ → Type 0

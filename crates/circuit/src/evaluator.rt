@@ -3,7 +3,7 @@ ghost use Rattle.std.specs.Prelude.{◌≡◌, ℕ, ◌+◌, ◌*◌, ◌/◌, �
 ghost use Rattle.circuit.specs.Limits.{max_gates};
 ghost use Rattle.circuit.specs.Circuits.{either, literal, grown};
 ghost use Rattle.circuit.specs.Netlists.{netlist};
-ghost use Rattle.circuit.specs.Answers.{evaluated, table_after, Consistent, inputs_of, Sound, Settles};
+ghost use Rattle.circuit.specs.Answers.{evaluated, table_after, Consistent, input_values, Sound, Settles};
 
 use crate::{Circuit, Value};
 use faults::TableFault;
@@ -53,8 +53,8 @@ pub fn evaluate<V: Value>(circuit: &Circuit, values: &mut [V]) -> Result<V, Tabl
     ensures value { result ≡ evaluated V.ops (netlist circuit.now) values.old }
     ensures after { values.new ≡ table_after V.ops (netlist circuit.now) values.old }
     ensures consistent { IfOk result (Consistent V.ops (netlist circuit.now) values.new) }
-    ensures sound { IfOk result (Sound V.LANES V.may (netlist circuit.now) (inputs_of V.ops.falsity circuit.now.inputs values.old)) }
-    ensures settled { IfOk result (Settles V.LANES V.may circuit.now.inputs (inputs_of V.ops.falsity circuit.now.inputs values.old)) }
+    ensures sound { IfOk result (Sound V.LANES V.may (netlist circuit.now) (input_values V.ops.falsity circuit.now.inputs values.old)) }
+    ensures settled { IfOk result (Settles V.LANES V.may circuit.now.inputs (input_values V.ops.falsity circuit.now.inputs values.old)) }
 {
     circuit.check_places(values.len())?;
     values[0] = V::falsity();

@@ -14,8 +14,7 @@ impl<'a> Circuit<'a> {
         let inputs = reading.inputs;
         let output = reading.output;
         let words = 2 * reading.gates as usize;
-        if inputs >= 1
-            && inputs <= MAX_INPUTS
+        if (1..=MAX_INPUTS).contains(&inputs)
             && reading.gates <= MAX_GATES
             && output <= 2 * (inputs + reading.gates) + 1
             && words <= table.len()
