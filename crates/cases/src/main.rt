@@ -4,13 +4,12 @@
 
 mod circuits;
 mod deciding;
+mod failure;
 mod files;
-mod limit;
-mod numbers;
 mod reading;
 mod registers;
 mod runs;
-mod told;
+mod tell;
 mod waiving;
 mod widest;
 
@@ -19,7 +18,6 @@ use std::io;
 fn main(rt: HostRuntime) -> io::Result<()> {
     widest::print(&rt)?;
     reading::print(&rt)?;
-    numbers::print(&rt)?;
     deciding::print(&rt)?;
     waiving::print(&rt)?;
     registers::print(&rt)

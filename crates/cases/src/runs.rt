@@ -6,16 +6,17 @@ use listing::{Draft, Finished, Running, Step};
 // The most entries that a listing uses.
 const MAX_ENTRIES: usize = 4096;
 
+pub const EMPTY: Entry = Entry { care: 0, value: 0 };
+
 // One next, with the fault alone where it is refused.
 pub fn step<D: Decider>(
     running: Running,
     register: &mut [Entry],
     decider: &mut D,
 ) -> Result<Step, ListingFault> {
-    match running.next(register, decider) {
-        Ok(step) => Ok(step),
-        Err(refusal) => Err(refusal.fault),
-    }
+    running
+        .next(register, decider)
+        .map_err(|refusal| refusal.fault)
 }
 
 // The finished listing. Each next but the last uses an entry, so it ends within the turns.
@@ -25,7 +26,7 @@ pub fn finish<D: Decider>(
     decider: &mut D,
 ) -> Result<Finished, ListingFault> {
     let mut running = draft.begin();
-    for _ in 0..MAX_ENTRIES + 1 {
+    for _ in 0..=MAX_ENTRIES {
         match step(running, register, decider)? {
             Step::Listed(longer) => running = longer,
             Step::Ended(finished) => return Ok(finished),
