@@ -26,19 +26,13 @@ fn alike<A: Decider, B: Decider>(
     a.ask(cube, wanted, barred).is_some() == b.ask(cube, wanted, barred).is_some()
 }
 
-// On how many cubes that fix the inputs of a care to the bits of a row they agree.
-fn agreements<A: Decider, B: Decider>(a: &mut A, b: &mut B, care: u32, barred: &[Entry]) -> u32 {
-    let mut count: u32 = 0;
-    for row in 0..ROWS {
-        let cube = Cube::low(care, row & care);
-        if alike(a, b, cube, true, barred) {
-            count = count.saturating_add(1);
-        }
-        if alike(a, b, cube, false, barred) {
-            count = count.saturating_add(1);
-        }
-    }
-    count
+// On how many cubes that fix the inputs of a care to the bits of a row they agree, for both wanted bits.
+fn agreements<A: Decider, B: Decider>(a: &mut A, b: &mut B, care: u32, barred: &[Entry]) -> usize {
+    (0..ROWS)
+        .map(|row| (row, true))
+        .chain((0..ROWS).map(|row| (row, false)))
+        .filter(|(row, wanted)| alike(a, b, Cube::low(care, row & care), *wanted, barred))
+        .count()
 }
 
 fn main(rt: HostRuntime) -> io::Result<()> {

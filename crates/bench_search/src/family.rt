@@ -1,92 +1,93 @@
 // The timing family. Of n inputs, n - 1 divisible by 4, the last one chooses a half of the others:
 // the output is 1 where some pair of neighbours in the chosen half has two ones.
-ghost use Rattle.std.specs.Prelude.{◌+◌, ◌*◌, ◌<◌, ◌≤◌, length};
+ghost use Rattle.std.specs.Prelude.{◌≡◌, ◌+◌, ◌-◌, ◌*◌, ◌/◌, ◌<◌, ◌≤◌, vec_len, OnOk};
 
 use circuit::{Circuit, MAX_INPUTS, Reading};
 use cubes::Entry;
+use std::alloc::{AllocError, Global};
 
-const WORDS: usize = 128;
-
-#[derive(Clone, Copy)]
+#[derive(Drop)]
 pub struct Family {
     inputs: u32,
     output: u32,
-    words: [u32; WORDS],
-    used: usize,
+    // The operands of each gate.
+    gates: Vec<[u32; 2]>,
     ghost few: { inputs ≤ 30 },
-    ghost room: { used ≤ 128 },
+    ghost room: { vec_len gates ≤ 4096 },
 }
 
 impl Family {
-    pub fn new(inputs: u32) -> Family {
+    pub fn new(heap: Global, inputs: u32) -> Result<Family, AllocError> {
         let inputs = inputs.min(MAX_INPUTS);
         let mut family = Family {
             inputs,
             output: 0,
-            words: [0; WORDS],
-            used: 0,
+            gates: Vec::new(heap),
         };
-        let pairs = inputs.saturating_sub(1) / 4;
+        let pairs = family.pairs();
         let chooser = 2 * inputs;
-        let first = family.half(1, pairs);
-        let second = family.half(2 * pairs + 1, pairs);
-        let chosen_first = family.and(first, chooser);
-        let chosen_second = family.and(second, chooser ^ 1);
-        family.output = family.or(chosen_first, chosen_second);
-        family
+        let first = family.half(1, pairs)?;
+        let second = family.half(2 * pairs + 1, pairs)?;
+        let chosen_first = family.and(first, chooser)?;
+        let chosen_second = family.and(second, chooser ^ 1)?;
+        family.output = family.or(chosen_first, chosen_second)?;
+        Ok(family)
     }
 
     pub fn circuit(&self) -> Circuit<'_> {
         let reading = Reading {
             inputs: self.inputs,
-            gates: (self.used / 2) as u32,
+            gates: self.gates.len() as u32,
             output: self.output,
         };
-        Circuit::take_up(reading, &self.words)
+        Circuit::take_up(reading, self.gates.as_slice().as_flattened())
     }
 
-    // Puts the cubes of all pairs, with the half that each is in, into the first entries; none where there is no room.
-    pub fn pair_cubes(&self, entries: &mut [Entry]) -> usize
-        ensures { result ≤ length entries.old }
+    // The cubes of all pairs, each in its half.
+    pub fn pair_cubes(&self, heap: Global) -> Result<Vec<Entry>, AllocError> {
+        let inputs = self.inputs;
+        let pairs = self.pairs();
+        (0..2 * pairs)
+            .map(|k| pair_cube(inputs, 2 * k + 1, k < pairs))
+            .collect(heap)
+    }
+
+    // How many pairs each half has.
+    fn pairs(&self) -> u32
+        ensures { result ≡ (self.now.inputs - 1) / 4 }
     {
-        let pairs = self.inputs.saturating_sub(1) / 4;
-        let count = 2 * pairs as usize;
-        if entries.len() < count {
-            return 0;
-        }
-        for k in 0..2 * pairs {
-            entries[k as usize] = pair_cube(self.inputs, 2 * k + 1, k < pairs);
-        }
-        count
+        self.inputs.saturating_sub(1) / 4
     }
 
     // The disjunction of some pairs of neighbours, from a variable on.
-    fn half(&mut self, variable: u32, pairs: u32) -> u32
-        requires { (variable ≤ 30) × (pairs ≤ 8) }
+    fn half(&mut self, variable: u32, pairs: u32) -> Result<u32, AllocError>
+        requires few { (variable ≤ 30) × (pairs ≤ 8) }
+        requires room { vec_len self.old.gates ≤ 16 }
+        ensures { OnOk result (vec_len self.new.gates ≤ vec_len self.old.gates + 2 * pairs) }
     {
         let mut some = 0;
         for k in 0..pairs {
             let left = 2 * (variable + 2 * k);
-            let pair = self.and(left, left + 2);
-            some = self.or(some, pair);
+            let pair = self.and(left, left + 2)?;
+            some = self.or(some, pair)?;
         }
-        some
+        Ok(some)
     }
 
-    fn or(&mut self, a: u32, b: u32) -> u32 {
-        self.and(a ^ 1, b ^ 1) ^ 1
+    fn or(&mut self, a: u32, b: u32) -> Result<u32, AllocError>
+        requires { vec_len self.old.gates < 4096 }
+        ensures { OnOk result (vec_len self.new.gates ≤ vec_len self.old.gates + 1) }
+    {
+        Ok(self.and(a ^ 1, b ^ 1)? ^ 1)
     }
 
-    // One gate more, and its literal; false where there is no room for it.
-    fn and(&mut self, a: u32, b: u32) -> u32 {
-        let at = self.used;
-        if at + 2 > WORDS {
-            return 0;
-        }
-        self.words[at] = a.max(b);
-        self.words[at + 1] = a.min(b);
-        self.used = at + 2;
-        2 * (self.inputs + (self.used / 2) as u32)
+    // One gate more, and its literal.
+    fn and(&mut self, a: u32, b: u32) -> Result<u32, AllocError>
+        requires { vec_len self.old.gates < 4096 }
+        ensures { OnOk result (vec_len self.new.gates ≤ vec_len self.old.gates + 1) }
+    {
+        self.gates.push([a.max(b), a.min(b)])?;
+        Ok(2 * (self.inputs + self.gates.len() as u32))
     }
 }
 

@@ -11,10 +11,6 @@ use search::Search;
 use std::time::Instant;
 use std::{env, io};
 
-const PLACES: usize = 128;
-
-const PAIRS: usize = 16;
-
 // Asks once, and prints whether a row came and, if asked for, the time.
 fn question(
     rt: &HostRuntime,
@@ -41,25 +37,21 @@ fn question(
 
 // Both wanted bits, with no barred entry and with the pairs' cubes barred.
 fn family_questions(rt: &HostRuntime, inputs: u32, timed: bool) -> io::Result<()> {
-    let family = Family::new(inputs);
-    let mut entries = [Entry { care: 0, value: 0 }; PAIRS];
-    let count = family.pair_cubes(&mut entries);
-    let mut values = [Ternary::Zero; PLACES];
-    let mut made = Search::make(family.circuit(), &mut values);
+    let heap = rt.alloc();
+    let family = Family::new(heap, inputs)?;
+    let pairs = family.pair_cubes(heap)?;
+    let circuit = family.circuit();
+    let mut values = vec![in heap; Ternary::Zero; circuit.places()]?;
+    let mut made = Search::make(circuit, values.as_mut_slice());
     for wanted in [false, true] {
         question(rt, &mut made.search, wanted, &[], timed)?;
-        question(rt, &mut made.search, wanted, &entries[0..count], timed)?;
+        question(rt, &mut made.search, wanted, pairs.as_slice(), timed)?;
     }
     Ok(())
 }
 
 fn main(rt: HostRuntime) -> io::Result<()> {
-    let mut timed = false;
-    for word in env::args(&rt)? {
-        if word.as_str() == "time" {
-            timed = true;
-        }
-    }
+    let timed = env::args(&rt)?.any(|word| word.as_str() == "time");
     for inputs in [17u32, 21, 25, 29] {
         family_questions(&rt, inputs, timed)?;
     }

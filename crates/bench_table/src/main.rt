@@ -7,13 +7,7 @@ mod timing;
 use std::{env, io};
 
 fn main(rt: HostRuntime) -> io::Result<()> {
-    let mut timed = false;
-    for word in env::args(&rt)? {
-        if word.as_str() == "time" {
-            timed = true;
-        }
-    }
-    if timed {
+    if env::args(&rt)?.any(|word| word.as_str() == "time") {
         timing::print(&rt)
     } else {
         answers::print(&rt)
