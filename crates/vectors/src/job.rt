@@ -1,11 +1,10 @@
 // One job in memory that is small, and that holds something else before.
-use crate::fault::Fault;
 use circuit::{Ternary, Word};
 use cubes::Entry;
 use faults::JobFault;
 use jobs::{Memory, list};
 use std::alloc::{AllocError, Global};
-use std::io::Write;
+use std::io;
 
 // For 24 gates.
 const GATE_WORDS: usize = 48;
@@ -40,33 +39,25 @@ fn list_file(
 }
 
 // The lines of a text, joined to one.
-fn joined(heap: Global, text: &[u8]) -> Result<Vec<u8>, AllocError> {
-    let mut line = Vec::new(heap);
-    let Some(lines) = text.strip_suffix(b"\n") else {
-        line.extend_from_slice(b"no line end")?;
-        return Ok(line);
-    };
-    for byte in lines {
-        if *byte == b'\n' {
-            line.extend_from_slice(b" / ")?;
-        } else {
-            line.push(*byte)?;
-        }
+fn joined(heap: Global, text: &[u8]) -> Result<String, AllocError> {
+    let text = String::from_utf8_lossy(heap, text)?;
+    match text.as_str().strip_suffix('\n') {
+        Some(lines) => lines.replace(heap, '\n', " / "),
+        None => String::from_str(heap, "no line end"),
     }
-    Ok(line)
 }
 
 // Prints the lines of the text, or the refusal.
-pub fn print_list(rt: &HostRuntime, file: &[u8], mode: u32, entries: usize) -> Result<(), Fault> {
-    let mut register = vec![in rt.alloc(); Entry { care: 7, value: 7 }; entries]?;
-    let mut text = vec![in rt.alloc(); b'?'; TEXT_BYTES]?;
+pub fn print_list(rt: &HostRuntime, file: &[u8], mode: u32, entries: usize) -> io::Result<()> {
+    let heap = rt.alloc();
+    let mut register = vec![in heap; Entry { care: 7, value: 7 }; entries]?;
+    let mut text = vec![in heap; b'?'; TEXT_BYTES]?;
     match list_file(file, mode, register.as_mut_slice(), text.as_mut_slice()) {
         Ok(size) => {
             text.truncate(size);
-            rt.stdout().write_all(&joined(rt.alloc(), &text)?)?;
-            println!(rt)?;
+            let line = joined(heap, text.as_slice())?;
+            println!(rt; "{line}")
         }
-        Err(fault) => println!(rt; "{fault}")?,
+        Err(fault) => println!(rt; "{fault}"),
     }
-    Ok(())
 }
