@@ -2,7 +2,7 @@
 #![tactic(auto)]
 
 use circuit::{Circuit, Ternary, Word};
-use cubes::{Cube, Decider, Entry};
+use cubes::{Cube, Decider, Entry, Question};
 use search::{Made, Search};
 use std::io;
 use table::Table;
@@ -16,14 +16,8 @@ const INPUTS: u32 = 9;
 const ROWS: u32 = 1 << INPUTS;
 
 // Whether both find a row, or both find none.
-fn alike<A: Decider, B: Decider>(
-    a: &mut A,
-    b: &mut B,
-    cube: Cube,
-    wanted: bool,
-    barred: &[Entry],
-) -> bool {
-    a.ask(cube, wanted, barred).is_some() == b.ask(cube, wanted, barred).is_some()
+fn alike<A: Decider, B: Decider>(a: &mut A, b: &mut B, question: Question) -> bool {
+    a.ask(question).is_some() == b.ask(question).is_some()
 }
 
 // On how many cubes that fix the inputs of a care to the bits of a row they agree, for both wanted bits.
@@ -31,7 +25,14 @@ fn agreements<A: Decider, B: Decider>(a: &mut A, b: &mut B, care: u32, barred: &
     (0..ROWS)
         .map(|row| (row, true))
         .chain((0..ROWS).map(|row| (row, false)))
-        .filter(|(row, wanted)| alike(a, b, Cube::low(care, row & care), *wanted, barred))
+        .filter(|(row, wanted)| {
+            let question = Question {
+                cube: Cube::low(care, row & care),
+                wanted: *wanted,
+                barred,
+            };
+            alike(a, b, question)
+        })
         .count()
 }
 

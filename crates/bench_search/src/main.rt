@@ -5,14 +5,14 @@
 mod family;
 
 use circuit::Ternary;
-use cubes::{Cube, Decider, Entry};
+use cubes::{Cube, Decider, Entry, Question};
 use family::Family;
 use search::Search;
 use std::time::Instant;
 use std::{env, io};
 
 // Asks once, and prints whether a row came and, if asked for, the time.
-fn question(
+fn ask(
     rt: &HostRuntime,
     search: &mut Search,
     wanted: bool,
@@ -21,9 +21,13 @@ fn question(
 ) -> io::Result<()> {
     let inputs = search.inputs();
     let count = barred.len();
-    let cube = Cube::low(0, 0);
+    let question = Question {
+        cube: Cube::low(0, 0),
+        wanted,
+        barred,
+    };
     let start = Instant::now(rt)?;
-    let answer = match search.ask(cube, wanted, barred) {
+    let answer = match search.ask(question) {
         Some(_) => "yes",
         None => "no",
     };
@@ -44,8 +48,8 @@ fn family_questions(rt: &HostRuntime, inputs: u32, timed: bool) -> io::Result<()
     let mut values = vec![in heap; Ternary::Zero; circuit.places()]?;
     let mut made = Search::make(circuit, values.as_mut_slice());
     for wanted in [false, true] {
-        question(rt, &mut made.search, wanted, &[], timed)?;
-        question(rt, &mut made.search, wanted, pairs.as_slice(), timed)?;
+        ask(rt, &mut made.search, wanted, &[], timed)?;
+        ask(rt, &mut made.search, wanted, pairs.as_slice(), timed)?;
     }
     Ok(())
 }

@@ -1,6 +1,6 @@
 // A table of two inputs, asked for rows in and outside of its set, with and without barred entries.
 use circuit::{Circuit, Reading, Word};
-use cubes::{Cube, Decider, Entry};
+use cubes::{Cube, Decider, Entry, Question};
 use std::io;
 use table::Table;
 
@@ -11,7 +11,12 @@ fn ask(
     wanted: bool,
     barred: &[Entry],
 ) -> io::Result<()> {
-    match table.ask(cube, wanted, barred) {
+    let question = Question {
+        cube,
+        wanted,
+        barred,
+    };
+    match table.ask(question) {
         Some(row) => println!(rt; "row {row}"),
         None => println!(rt; "nothing"),
     }

@@ -1,7 +1,7 @@
 // Questions to a table of 16 inputs, against more and more barred entries. Each line has the sum of the answers, so that the same
 // work in another language can be compared.
 use circuit::{Circuit, Reading, Word};
-use cubes::{Cube, Decider, Entry};
+use cubes::{Cube, Decider, Entry, Question};
 use std::io;
 use std::time::Instant;
 use table::Table;
@@ -39,8 +39,12 @@ fn sum(table: &mut Table, wanted: bool, fixed: u32, barred: &[Entry]) -> u32 {
     let mut sum = 0u32;
     for _ in 0..QUESTIONS {
         let care = next(&mut seed) & next(&mut seed) & fixed;
-        let cube = Cube::low(care, next(&mut seed) & care);
-        if let Some(row) = table.ask(cube, wanted, barred) {
+        let question = Question {
+            cube: Cube::low(care, next(&mut seed) & care),
+            wanted,
+            barred,
+        };
+        if let Some(row) = table.ask(question) {
             sum = sum.wrapping_add(row).wrapping_add(1);
         }
     }

@@ -2,7 +2,7 @@
 use circuit::{Ternary, Word};
 use cubes::Entry;
 use faults::JobFault;
-use jobs::{Memory, list};
+use jobs::{Workspace, list};
 use std::alloc::{AllocError, Global};
 use std::io;
 
@@ -28,14 +28,13 @@ fn list_file(
     let mut bits = [7u32; BIT_WORDS];
     let mut words = [Word::new(7); PLACES];
     let mut signals = [Ternary::Unknown; PLACES];
-    let memory = Memory {
+    let workspace = Workspace {
         gate_table: &mut gate_table,
         bits: &mut bits,
         words: &mut words,
         signals: &mut signals,
-        register,
     };
-    list(file, mode, memory, text)
+    list(file, mode, workspace, register, text)
 }
 
 // The lines of a text, joined to one.
