@@ -1,8 +1,6 @@
 -- The most inputs and gates that a circuit may have. Assumes nothing.
 use Rattle.std.specs.Prelude.{ℕ}
-
-abbrev pub max_inputs : ℕ
-max_inputs = 30
+pub use Rattle.cubes.specs.Limits.{max_inputs}
 
 abbrev pub max_gates : ℕ
 max_gates = 4096

@@ -3,6 +3,7 @@
 --   solution   a row on which the output is 1
 -- Assumes nothing.
 use Rattle.std.specs.Prelude.{ℕ, zero, suc, ◌+◌, ◌-◌, ◌%◌, ◌^◌, Bool, cond, List, [], ◌∷◌, ◌==◌}
+unfoldable pub use Rattle.cubes.specs.Rows.{count_below}
 use Rattle.circuit.specs.Circuits.{Netlist, bits, literal, variables}
 use Rattle.circuit.specs.Kinds.{bit_at}
 
@@ -18,11 +19,6 @@ input_bits inputs row = per_input (bit_at row) inputs
 -- the output is 1 on the row
 abbrev pub solves : Netlist → ℕ → Bool
 solves c row = literal bits (variables bits c.gates (input_bits c.inputs row)) c.output
-
--- how many numbers below a bound pass a test
-unfoldable pub count_below : (ℕ → Bool) → ℕ → ℕ
-count_below p zero = 0
-count_below p (suc k) = cond (p k) 1 0 + count_below p k
 
 -- how many rows are solutions
 abbrev pub solution_count : Netlist → ℕ

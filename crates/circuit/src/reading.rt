@@ -1,6 +1,7 @@
-// The most inputs and gates that a circuit may have.
-pub const MAX_INPUTS: u32 = 30;
+// The most inputs that a circuit may have: as many as a cube can fix.
+pub const MAX_INPUTS: u32 = cubes::MAX_INPUTS;
 
+// The most gates.
 pub const MAX_GATES: u32 = 4096;
 
 // The most inputs of a circuit whose rows are all gone through, as in a table.

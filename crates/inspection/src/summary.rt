@@ -2,6 +2,7 @@
 ghost use Rattle.std.specs.Prelude.{◌≡◌, ◌≤◌, IfOk, string_bytes};
 ghost use Rattle.inspection.specs.Rows.{bit_text, row_text};
 
+use circuit::bit_at;
 use cubes::Row;
 use std::alloc::{AllocError, Global};
 
@@ -30,8 +31,5 @@ fn bit_text(row: Row, place: u32) -> char
     ensures value { result ≡ bit_text row place }
     ensures ascii { result ≤ 49 }
 {
-    if place >= 32 {
-        return '0';
-    }
-    if (row >> place) % 2 == 1 { '1' } else { '0' }
+    if bit_at(row, place) { '1' } else { '0' }
 }
