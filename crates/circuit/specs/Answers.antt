@@ -5,18 +5,14 @@ use Rattle.std.specs.Prelude.{◌≡◌, ℕ, ◌+◌, ◌-◌, ◌*◌, ◌/◌
 use Rattle.faults.specs.declared.table.TableFault.{TableFault}
 use Rattle.faults.specs.declared.table.TableFault.TheVariants.{ValuesShort}
 use Rattle.circuit.specs.Kinds.{Ops, Settled, bit_at}
-use Rattle.circuit.specs.Circuits.{Netlist, highest, literal, variables}
+use Rattle.circuit.specs.Circuits.{Netlist, highest, literal, variables, output_with}
 use Rattle.circuit.specs.Solutions.{solves}
 
 -- where the value table has a place for each variable the answer, else the refusal
 abbrev pub with_room : {X : Type 0} → Netlist → ℕ → X → Result X TableFault
 with_room c places x = cond (nat_lt (highest c) places) (Ok x) (Err (ValuesShort (highest c + 1)))
 
--- the output's value, where the inputs have these
-abbrev pub output_with : {X : Type 0} → Ops X → Netlist → List X → X
-output_with o c held = literal o (variables o c.gates held) c.output
-
--- the same, where the inputs' places of the table have theirs
+-- the output's value, where the inputs' places of the table have theirs
 abbrev pub output_of : {X : Type 0} → Ops X → Netlist → List X → X
 output_of o c vs = output_with o c (take c.inputs (drop 1 vs))
 

@@ -61,3 +61,7 @@ grown o (r ∷ s ∷ gates) vs = grown o gates (vs ++ o.both (literal o vs r) (l
 -- every variable's value, where vs has one for each input
 abbrev pub variables : {X : Type 0} → Ops X → List ℕ → List X → List X
 variables o gates vs = grown o gates (o.falsity ∷ vs)
+
+-- the output's value, where the inputs have these
+abbrev pub output_with : {X : Type 0} → Ops X → Netlist → List X → X
+output_with o c held = literal o (variables o c.gates held) c.output

@@ -4,7 +4,7 @@
 -- Assumes nothing.
 use Rattle.std.specs.Prelude.{ℕ, zero, suc, ◌+◌, ◌-◌, ◌%◌, ◌^◌, Bool, cond, List, [], ◌∷◌, ◌==◌}
 unfoldable pub use Rattle.cubes.specs.Rows.{count_below}
-use Rattle.circuit.specs.Circuits.{Netlist, bits, literal, variables}
+use Rattle.circuit.specs.Circuits.{Netlist, bits, output_with}
 use Rattle.circuit.specs.Kinds.{bit_at}
 
 -- one for each input, input 1 first, where each is told by its bit of the row
@@ -18,7 +18,7 @@ input_bits inputs row = per_input (bit_at row) inputs
 
 -- the output is 1 on the row
 abbrev pub solves : Netlist → ℕ → Bool
-solves c row = literal bits (variables bits c.gates (input_bits c.inputs row)) c.output
+solves c row = output_with bits c (input_bits c.inputs row)
 
 -- how many rows are solutions
 abbrev pub solution_count : Netlist → ℕ
