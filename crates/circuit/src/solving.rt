@@ -16,7 +16,7 @@ struct SingleRow(u32);
 impl Assignment<Bit> for SingleRow {
     ghost gives = { λ r. row_bit r.0 };
 
-    fn value(self, place: u32) -> Bit {
+    fn input(self, place: u32) -> Bit {
         Bit::new(bit_at(self.0, place))
     }
 }
