@@ -1,10 +1,7 @@
--- A row's text goes on bit by bit, and a place past the row's width has a 0. Assumes nothing.
+-- A row's text goes on bit by bit. Assumes nothing.
 use Rattle.std.proofs.Common.{◌≡◌, ℕ, suc, ◌/◌, ◌^◌, ◌<◌, ◌≤◌, List, [], ◌∷◌, ◌++◌, sym, append_assoc, lt_of_lt_of_le, pow_mono}
 use native.Mathlib.Nat.{div-eq_of_lt}
 use Rattle.inspection.specs.Rows.{bit_text, row_text}
 
 pub row_more : (bs : List ℕ) (k row : ℕ) → bs ++ row_text (suc k) row ≡ (bs ++ bit_text row k ∷ []) ++ row_text k row
 row_more bs k row = sym (append_assoc bs (bit_text row k ∷ []) (row_text k row))
-
-pub no_bit : (row place : ℕ) → row < 2 ^ 32 → 32 ≤ place → row / 2 ^ place ≡ 0
-no_bit row place small high = div-eq_of_lt (lt_of_lt_of_le small (pow_mono high))

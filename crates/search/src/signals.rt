@@ -11,7 +11,7 @@ use circuit::{Assignment, Circuit, Ternary, Value, bit_at, evaluate_on};
 impl Assignment<Ternary> for Branch {
     ghost gives = { λ b. signal_of b.inputs b.care b.value };
 
-    fn value(self, place: u32) -> Ternary {
+    fn input(self, place: u32) -> Ternary {
         if self.is_open(place) {
             Ternary::Unknown
         } else if bit_at(self.value(), place) {
