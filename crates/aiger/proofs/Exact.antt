@@ -4,16 +4,15 @@ use Rattle.std.proofs.lemmas.List.{length-replicate}
 use Rattle.std.proofs.lemmas.Bool.{ltb-false}
 use Rattle.circuit.specs.declared.reading.Reading.{Reading}
 use Rattle.faults.specs.Reports.{max_file_bytes}
-use Rattle.faults.specs.declared.text.TextFault.TheVariants.{TooLong}
 use Rattle.faults.specs.declared.circuit.CircuitFault.{CircuitFault}
 use Rattle.faults.specs.declared.circuit.CircuitFault.TheVariants.{Text}
 use Rattle.text.proofs.Answers.{not_both, next_ok, ok_same}
-use Rattle.aiger.specs.FaultLines.{located_at, located_in}
+use Rattle.aiger.specs.FaultLines.{too_long, located_at, located_in}
 use Rattle.aiger.specs.Lines.{Within, header_read, header_fits, inputs_at, output_at, gates_at}
 use Rattle.aiger.specs.Symbols.{slots, symbols_at}
 use Rattle.aiger.specs.Reads.{Answer, lines_of, into_of, settled, read_of}
 use Rattle.aiger.specs.Grammar.{NumberLine, InputLines, GateLines, SymbolLines, Written, gate_table, Exactly}
-use Rattle.aiger.proofs.Carried.{keep_ok, located_ok}
+use Rattle.aiger.proofs.Carried.{keep_ok, told_ok}
 use Rattle.aiger.proofs.HeaderTexts.{header_read_lem, header_back, limits_read, limits_back}
 use Rattle.aiger.proofs.LiteralTexts.{inputs_read, inputs_back, output_read, output_back}
 use Rattle.aiger.proofs.GateTexts.{gates_read, gates_back, table_is}
@@ -32,7 +31,7 @@ into_read bs n r gs w =
     let t = replicate n 0 in
     let eh = header_read_lem bs h w.after_header w.header in
     let ei = inputs_read h.inputs 1 eh.0 bs w.after_inputs (subst (λ (l : List ℕ). InputLines 1 h.inputs l w.after_inputs) (sym eh.2) w.inputs) in
-    let eo = output_read bs ei.0 r.output h w.after_output w.output_below (subst (λ (l : List ℕ). NumberLine (r.output ∷ []) l w.after_output) (sym ei.2) w.output) in
+    let eo = output_read bs ei.0 r.output h.highest h.inputs w.after_output w.output_below (subst (λ (l : List ℕ). NumberLine (r.output ∷ []) l w.after_output) (sym ei.2) w.output) in
     let eg = gates_read gs h.inputs 0 eo.0 bs t w.after_gates (subst (λ (l : List ℕ). GateLines h.inputs 0 gs l w.after_gates) (sym eo.2) w.gates) in
     let lines : Lines h.inputs (replicate slots false) (drop eg.0 bs) = record {
       symbols = w.symbols;
@@ -60,19 +59,19 @@ long_back false t z e a r h = (refl, h)
 into_back : (bs : List ℕ) (n : ℕ) (r : Reading) (z : List ℕ) → ◌≡◌ {A = Answer} (into_of bs (replicate n 0)) (z, Ok r) → (gs : List (ℕ × ℕ)) × Written bs n r gs × (z ≡ gate_table n gs)
 into_back bs n r z e =
     let t = replicate n 0 in
-    let few = long_back (ltb max_file_bytes (length bs)) t z (Text (located_at bs TooLong)) (lines_of bs t) r e in
+    let few = long_back (ltb max_file_bytes (length bs)) t z too_long (lines_of bs t) r e in
     let a = keep_ok Text t (located_in bs (header_read bs)) _ z r few.1 in
     let h = a.0.0 in
     let b = keep_ok (λ e. e) t (header_fits h (length t)) _ z r a.2 in
     let c = keep_ok (λ e. e) t (inputs_at bs a.0.1 1 h.inputs) _ z r b.2 in
-    let d = keep_ok (λ e. e) t (output_at bs c.0 h) _ z r c.2 in
+    let d = keep_ok (λ e. e) t (output_at bs c.0 h.highest h.inputs) _ z r c.2 in
     let g = gates_at bs h.inputs 0 h.gates d.0.1 t in
     let f = keep_ok (λ e. e) g.0 g.1 _ z r d.2 in
     let is_z : g.0 ≡ z = ap (λ (x : Answer). x.0) f.2 in
     let s = next_ok (symbols_at bs f.0 h.inputs) _ r (ap (λ (x : Answer). x.1) f.2) in
     let is_r = ok_same (record { inputs = h.inputs; gates = h.gates; output = d.0.0 }) r s.2 in
     let lim : Within h n = limits_back h n b.0 (sym (ap (header_fits h) (length-replicate n 0)) ∙ b.1) in
-    let bo = output_back bs c.0 h d.0 d.1 in
+    let bo = output_back bs c.0 h.highest h.inputs d.0 d.1 in
     let bg = gates_back h.gates h.inputs 0 d.0.1 f.0 bs t g.0 (λ j. (g.0, f.1 j)) in
     let sy = symbols_back bs f.0 h.inputs s.0 s.1 in
     let gs = bg.0 in
@@ -93,7 +92,7 @@ into_back bs n r z e =
             after_gates = drop f.0 bs;
             rest = sy.rest;
             symbols = sy.symbols;
-            header = header_back bs a.0 (located_ok bs _ _ a.1);
+            header = header_back bs a.0 (told_ok (located_at bs) _ _ a.1);
             inputs = inputs_back h.inputs 1 a.0.1 c.0 bs c.1;
             output = bo.1;
             gates = bg.2;

@@ -5,14 +5,15 @@ use Rattle.std.proofs.lemmas.Bool.{cond-false, eq-eqb, eqb-true, leb-false, lt-l
 use Rattle.faults.specs.declared.text.TextFault.{TextFault}
 use Rattle.faults.specs.declared.circuit.CircuitFault.{CircuitFault}
 use Rattle.faults.specs.declared.circuit.CircuitFault.TheVariants.{Text}
-use Rattle.text.specs.Lines.{next, numbers_at}
+use Rattle.text.specs.Runs.{next}
+use Rattle.text.specs.Lines.{numbers_at}
 use Rattle.text.proofs.Answers.{ok_same, after_test, next_ok, of_three}
 use Rattle.text.proofs.LineRun.{numbers_count}
-use Rattle.aiger.specs.FaultLines.{located_in}
+use Rattle.aiger.specs.FaultLines.{located_at, located_in}
 use Rattle.aiger.specs.Lines.{keep, gate_in, gate_at, gate_fits, wrote, gates_at}
 use Rattle.aiger.specs.Grammar.{NumberLine, GateLines, gate_words, gate_table}
 use Rattle.aiger.specs.declared.gates.Gate.{Gate}
-use Rattle.aiger.proofs.Carried.{keep_ok, located_ok}
+use Rattle.aiger.proofs.Carried.{keep_ok, told_ok}
 use Rattle.aiger.proofs.NumberTexts.{numbers_read, numbers_back}
 
 abbrev GateRead : Type 0
@@ -79,7 +80,7 @@ gates_back (suc n) i k p q bs t z e =
     let g = a.0.0 in
     let b = keep_ok (λ e. e) t (gate_fits g i k) _ z q a.2 in
     let fits = fits_back g i k b.0 b.1 in
-    let line = subst (λ (own : ℕ). NumberLine (own ∷ g.left ∷ g.right ∷ []) (drop p bs) (drop a.0.1 bs)) fits.0 (gate_back bs p a.0 (located_ok bs _ _ a.1)) in
+    let line = subst (λ (own : ℕ). NumberLine (own ∷ g.left ∷ g.right ∷ []) (drop p bs) (drop a.0.1 bs)) fits.0 (gate_back bs p a.0 (told_ok (located_at bs) _ _ a.1)) in
     let more = gates_back n i (k + 1) a.0.1 q bs (wrote t k g) z b.2 in (
       (g.left, g.right) ∷ more.0,
       ap suc more.1,

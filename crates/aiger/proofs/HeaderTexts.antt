@@ -3,7 +3,8 @@ use Rattle.std.proofs.Common.{◌≡◌, ℕ, ◌+◌, ◌*◌, not, ◌||◌, e
 use Rattle.std.proofs.lemmas.Bool.{cond-false, eq-eqb, eqb-true, ltb-false, le-ltb, or_from, or_parts, not-false, not_from_true}
 use Rattle.circuit.specs.Limits.{max_inputs, max_gates}
 use Rattle.faults.specs.declared.text.TextFault.{TextFault}
-use Rattle.text.specs.Lines.{next, expect_at, numbers_at, word_at, header_at}
+use Rattle.text.specs.Runs.{next}
+use Rattle.text.specs.Lines.{expect_at, numbers_at, word_at, header_at}
 use Rattle.text.proofs.Answers.{ok_same, after_test, next_ok, of_five}
 use Rattle.text.proofs.LineRun.{numbers_count}
 use Rattle.aiger.specs.Lines.{Within, header_in, header_read, header_fits}

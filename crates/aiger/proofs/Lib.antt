@@ -3,7 +3,7 @@ pub mod NumberTexts
 pub mod HeaderTexts
 pub mod LiteralTexts
 pub mod GateTexts
-pub mod Run
+pub mod SymbolSteps
 pub mod SymbolTexts
 pub mod SymbolsBack
 pub mod SymbolsRead

@@ -6,11 +6,10 @@ use Rattle.faults.specs.declared.circuit.Rule.TheVariants.{InputLine, OutputLite
 use Rattle.faults.specs.declared.circuit.CircuitFault.TheVariants.{Text, Broken}
 use Rattle.text.specs.Lines.{item_at}
 use Rattle.text.proofs.Answers.{ok_same, after_test, in_test}
-use Rattle.aiger.specs.FaultLines.{located_in}
+use Rattle.aiger.specs.FaultLines.{located_at, located_in}
 use Rattle.aiger.specs.Lines.{up, inputs_at, output_at}
 use Rattle.aiger.specs.Grammar.{NumberLine, InputLines}
-use Rattle.aiger.specs.declared.header.Header.{Header}
-use Rattle.aiger.proofs.Carried.{up_ok, located_ok}
+use Rattle.aiger.proofs.Carried.{up_ok, told_ok}
 use Rattle.aiger.proofs.NumberTexts.{number_line_read, number_line_back}
 
 abbrev Read : Type 0
@@ -32,22 +31,22 @@ inputs_back zero k p q bs e = ap (λ (i : ℕ). drop i bs) (ok_same p q e)
 inputs_back (suc n) k p q bs e =
     let l = up_ok Text (located_in bs (item_at bs p 10)) _ q e in
     let t = in_test (eqb l.0.0 (2 * k)) _ _ _ l.2 in
-    let a = number_line_back bs p l.0 (located_ok bs _ _ l.1) in
+    let a = number_line_back bs p l.0 (told_ok (located_at bs) _ _ l.1) in
     (drop l.0.1 bs, subst (λ (w : ℕ). NumberLine (w ∷ []) (drop p bs) (drop l.0.1 bs)) (eqb-true _ _ t.0) a, inputs_back n (k + 1) l.0.1 q bs t.1)
 
-pub output_read : (bs : List ℕ) (p v : ℕ) (h : Header) (rest : List ℕ) → v ≤ 2 * h.highest + 1 → NumberLine (v ∷ []) (drop p bs) rest
-    → (q : ℕ) × (output_at bs p h ≡ Ok (v, q)) × (drop q bs ≡ rest)
-output_read bs p v h rest low line =
+pub output_read : (bs : List ℕ) (p v hi i : ℕ) (rest : List ℕ) → v ≤ 2 * hi + 1 → NumberLine (v ∷ []) (drop p bs) rest
+    → (q : ℕ) × (output_at bs p hi i ≡ Ok (v, q)) × (drop q bs ≡ rest)
+output_read bs p v hi i rest low line =
     let a = number_line_read bs p v rest line in (
       a.0,
-      ap (λ (r : Read). up Text (located_in bs r) (λ v. cond (ltb (2 * h.highest + 1) v.0) (Err (Broken OutputLiteral (h.inputs + 2))) (Ok v))) a.1
+      ap (λ (r : Read). up Text (located_in bs r) (λ v. cond (ltb (2 * hi + 1) v.0) (Err (Broken OutputLiteral (i + 2))) (Ok v))) a.1
           ∙ cond-false _ _ _ (le-ltb _ _ low),
       a.2,
     )
 
-pub output_back : (bs : List ℕ) (p : ℕ) (h : Header) (v : ℕ × ℕ) → output_at bs p h ≡ Ok v → (v.0 ≤ 2 * h.highest + 1) × NumberLine (v.0 ∷ []) (drop p bs) (drop v.1 bs)
-output_back bs p h v e =
+pub output_back : (bs : List ℕ) (p hi i : ℕ) (v : ℕ × ℕ) → output_at bs p hi i ≡ Ok v → (v.0 ≤ 2 * hi + 1) × NumberLine (v.0 ∷ []) (drop p bs) (drop v.1 bs)
+output_back bs p hi i v e =
     let l = up_ok Text (located_in bs (item_at bs p 10)) _ v e in
-    let t = after_test (ltb (2 * h.highest + 1) l.0.0) _ _ _ l.2 in
-    subst (λ (v : ℕ × ℕ). (v.0 ≤ 2 * h.highest + 1) × NumberLine (v.0 ∷ []) (drop p bs) (drop v.1 bs)) (ok_same l.0 v t.1)
-    (ltb-false _ _ t.0, number_line_back bs p l.0 (located_ok bs _ _ l.1))
+    let t = after_test (ltb (2 * hi + 1) l.0.0) _ _ _ l.2 in
+    subst (λ (v : ℕ × ℕ). (v.0 ≤ 2 * hi + 1) × NumberLine (v.0 ∷ []) (drop p bs) (drop v.1 bs)) (ok_same l.0 v t.1)
+    (ltb-false _ _ t.0, number_line_back bs p l.0 (told_ok (located_at bs) _ _ l.1))

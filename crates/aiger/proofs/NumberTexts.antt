@@ -1,19 +1,18 @@
 -- Lines of numbers: what the reader accepts is what the grammar has. Assumes nothing.
-use Rattle.std.proofs.Common.{◌≡◌, ℕ, zero, suc, ◌+◌, ◌-◌, ◌<◌, ◌≤◌, true, false, ◌&&◌, eqb, ltb, leb, List, [], ◌∷◌, ◌++◌, length, get_or, drop, Ok, Result, sym, refl, ap, ◌∙◌, subst, add-zero, arith}
+use Rattle.std.proofs.Common.{◌≡◌, ℕ, zero, suc, ◌+◌, ◌-◌, ◌<◌, true, false, ◌&&◌, eqb, ltb, List, [], ◌∷◌, ◌++◌, length, get_or, drop, Ok, Result, sym, refl, ap, ◌∙◌, subst, add-zero, arith}
 use Rattle.std.proofs.lemmas.List.{drop_at, get_or-drop, length-drop, drop-drop, drop_more}
-use Rattle.std.proofs.lemmas.Bool.{cond-true, cond-false, cond_both, eq-eqb, ne_eqb, eqb-true, eqb-false, ltb-true, leb-true, lt-ltb, le-leb, and_from, and_parts}
+use Rattle.std.proofs.lemmas.Bool.{cond-true, cond-false, cond_both, eq-eqb, ne_eqb, eqb-true, eqb-false, ltb-true, lt-ltb, le-leb, and_from, and_parts}
 use Rattle.std.proofs.lemmas.Bool.Decides.{nat_tests}
 use Rattle.faults.specs.declared.text.TextFault.{TextFault}
-use Rattle.text.specs.Numbers.{is_digit, digits, decimal, fair, judged, number_at}
-use Rattle.text.specs.Lines.{next, expect_at, item_at, numbers_at}
+use Rattle.text.specs.Numbers.{is_digit, AllDigits, digits, decimal, fair, judged, number_at}
+use Rattle.text.specs.Runs.{next}
+use Rattle.text.specs.Lines.{expect_at, item_at, numbers_at}
+use Rattle.text.proofs.Digits.{all_digits}
 use Rattle.text.proofs.Answers.{ok_same, after_test, in_test, next_ok}
 use Rattle.aiger.specs.Grammar.{Numeral, NumberLine}
 
 abbrev Read : Type 0
 Read = Result (ℕ × ℕ) TextFault
-
-abbrev AllDigits : List ℕ → Type 0
-AllDigits l = (k : ℕ) → k < length l → (48 ≤ get_or l k 0) × (get_or l k 0 ≤ 57)
 
 -- a number
 
@@ -41,14 +40,6 @@ pub number_read : (bs : List ℕ) (p v x : ℕ) (ds rest : List ℕ) → Numeral
 number_read bs p v x ds rest n nd e =
     (p + length ds, ap (λ (l : List ℕ). judged p (digits l)) e ∙ ap (judged p) (digits_run ds x rest n.digit nd) ∙ judge_numeral p v ds n, rest_at p bs ds (x ∷ rest) e)
 
-all_more : (b : ℕ) (bs : List ℕ) → is_digit b ≡ true → AllDigits bs → AllDigits (b ∷ bs)
-all_more b bs e d zero h = let t = and_parts (leb 48 b) (leb b 57) e in (leb-true 48 b t.0, leb-true b 57 t.1)
-all_more b bs e d (suc k) h = d k (omega arith)
-
-digits_digit : (bs : List ℕ) → AllDigits (digits bs)
-digits_digit [] = λ k h. absurd (omega arith)
-digits_digit (b ∷ bs) = cond_both (is_digit b) (b ∷ digits bs) [] AllDigits (λ e. all_more b (digits bs) e (digits_digit bs)) (λ _ k h. absurd (omega arith))
-
 digits_front : (bs : List ℕ) → bs ≡ digits bs ++ drop (length (digits bs)) bs
 digits_front [] = refl
 digits_front (b ∷ bs) =
@@ -66,7 +57,7 @@ judge_back p v ds d e =
 pub number_back : (bs : List ℕ) (p : ℕ) (v : ℕ × ℕ) → number_at bs p ≡ Ok v → (ds : List ℕ) × Numeral v.0 ds × (drop p bs ≡ ds ++ drop v.1 bs)
 number_back bs p v e =
     let ds = digits (drop p bs) in
-    let j = judge_back p v ds (digits_digit (drop p bs)) e in
+    let j = judge_back p v ds (all_digits (drop p bs)) e in
     (ds, j.0, digits_front (drop p bs) ∙ ap (λ (l : List ℕ). ds ++ l) (drop-drop (length ds) p bs ∙ ap (λ (i : ℕ). drop i bs) (sym j.1)))
 
 -- a byte that is due

@@ -8,7 +8,7 @@ use Rattle.aiger.specs.declared.states.Letter.{Letter}
 use Rattle.aiger.specs.declared.states.Letter.TheVariants.{Input, Output}
 use Rattle.aiger.specs.declared.states.State.{State}
 use Rattle.aiger.specs.declared.states.State.TheVariants.{Start, Position, Gap, Name, Comment, Done}
-use Rattle.aiger.specs.declared.symbols.Machine.{Machine}
+use Rattle.aiger.specs.declared.symbols.SymbolMachine.{SymbolMachine}
 
 -- the slot of a position in range
 abbrev pub place : Letter → ℕ → ℕ
@@ -18,7 +18,7 @@ place Output p = max_inputs
 -- the symbols' slots are not marked before, nor by one another
 abbrev pub Free : List Bool → List Symbol → Type 0
 Free z [] = Unit {0}
-Free z (s ∷ ss) = (get_or z (place s.letter s.position) false ≡ false) × Free (set z (place s.letter s.position) true) ss
+Free z (s ∷ ss) = (get_or z (place s.letter s.position) true ≡ false) × Free (set z (place s.letter s.position) true) ss
 
 pub record Lines (n : ℕ) (z : List Bool) (ts : List ℕ) : Type 0 where
   pub symbols : List Symbol
@@ -36,7 +36,7 @@ pub record Named (n : ℕ) (z : List Bool) (l : Letter) (p k : ℕ) (ts : List �
   pub few : length name ≤ max_name - k
   pub bytes : NameBytes name
   pub range : InRange n l p
-  pub free : get_or z (place l p) false ≡ false
+  pub free : get_or z (place l p) true ≡ false
   pub more : Lines n (set z (place l p) true) rest
 
 abbrev pub Rest : ℕ → List Bool → State → List ℕ → Type 0
@@ -47,11 +47,11 @@ Rest n z (Name l p k) ts = Named n z l p k ts
 Rest n z Comment ts = (rest : List ℕ) × (ts ≡ 10 ∷ rest)
 Rest n z Done ts = Unit {0}
 
-abbrev pub RestAt : List ℕ → Machine → Type 0
+abbrev pub RestAt : List ℕ → SymbolMachine → Type 0
 RestAt bs t = Rest t.inputs t.seen t.state (drop t.at bs)
 
 -- the machine after the newline of a line with the slot s
-abbrev pub ended : Machine → ℕ → Machine
+abbrev pub ended : SymbolMachine → ℕ → SymbolMachine
 ended m s = record { state = Start; at = m.at + 1; inputs = m.inputs; seen = set m.seen s true }
 
 -- slots

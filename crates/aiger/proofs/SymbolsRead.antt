@@ -1,46 +1,49 @@
 -- The symbol lines of the grammar are accepted by the machine. Assumes nothing.
-use Rattle.std.proofs.Common.{◌≡◌, ℕ, zero, suc, ◌+◌, ◌-◌, ◌<◌, ◌≤◌, Bool, true, false, eqb, ltb, List, [], ◌∷◌, ◌++◌, length, get_or, drop, set, replicate, Ok, Result, sym, refl, ap, ◌∙◌, subst, inl, inr, ⊎_elim, arith}
+use Rattle.std.proofs.Common.{◌≡◌, ℕ, zero, suc, ◌+◌, ◌-◌, ◌<◌, ◌≤◌, Bool, true, false, eqb, ltb, List, [], ◌∷◌, ◌++◌, length, get_or, drop, set, replicate, Some, None, Ok, Option, Result, sym, refl, ap, ◌∙◌, subst, inl, inr, ⊎_elim, arith}
+use Rattle.std.specs.Result.{result_map_both}
 use Rattle.std.proofs.lemmas.List.{drop_all, length-append, length-drop}
 use Rattle.std.proofs.lemmas.Bool.{cond-true, cond-false, cases_Bool, ne_eqb, lt-ltb, le-leb, lt-leb, and_from, false≢true}
 use Rattle.faults.specs.declared.text.TextFault.{TextFault}
-use Rattle.faults.specs.declared.circuit.CircuitFault.TheVariants.{Text}
 use Rattle.text.specs.declared.classes.Class.TheVariants.{Digit, Newline}
 use Rattle.text.specs.Classes.{class_of, is}
 use Rattle.text.specs.Numbers.{number_at}
-use Rattle.text.specs.Lines.{next}
+use Rattle.text.specs.Runs.{next}
 use Rattle.text.proofs.Bytes.{newline_byte, digit_class}
-use Rattle.aiger.specs.FaultLines.{located_in}
 use Rattle.aiger.specs.Lines.{up}
-use Rattle.aiger.specs.Symbols.{max_name, nameable, slots, moved, placed, marked, named, step_by, step_of, going, ran, symbols_at}
+use Rattle.aiger.specs.Symbols.{max_name, nameable, slots, moved, placed, marked, named, step_by, step_of, free, is_over, refused_at, symbols_at}
 use Rattle.aiger.specs.Grammar.{Numeral, Symbol, letter_byte, InRange, NameBytes, SymbolLines, Ending}
 use Rattle.aiger.specs.declared.states.Letter.{Letter}
 use Rattle.aiger.specs.declared.states.Letter.TheVariants.{Input, Output}
 use Rattle.aiger.specs.declared.states.State.{State}
 use Rattle.aiger.specs.declared.states.State.TheVariants.{Start, Position, Gap, Name, Comment, Done}
-use Rattle.aiger.specs.declared.symbols.Machine.{Machine}
+use Rattle.aiger.specs.declared.states.SymbolFault.{SymbolFault}
+use Rattle.aiger.specs.declared.states.SymbolFault.TheVariants.{Text}
+use Rattle.aiger.specs.declared.symbols.SymbolMachine.{SymbolMachine}
 use Rattle.aiger.proofs.NumberTexts.{number_read, first_of, one_on}
-use Rattle.aiger.proofs.Run.{Step, forward, past_end}
+use Rattle.text.proofs.Runs.{past_end}
+use Rattle.aiger.proofs.SymbolSteps.{Step, going, ran, forward}
 use Rattle.aiger.proofs.SymbolTexts.{place, Free, Lines, Rest, ended, slot_within}
 
-abbrev mk : State → ℕ → ℕ → List Bool → Machine
+abbrev mk : State → ℕ → ℕ → List Bool → SymbolMachine
 mk s p n z = record { state = s; at = p; inputs = n; seen = z }
 
 -- single steps
 
 -- a step that goes well, and then the others
-step_read : (f : ℕ) (bs : List ℕ) (m t : Machine) → going bs m ≡ true → step_of bs m ≡ Ok t → ran f bs t ≡ Ok tt → ran (suc f) bs m ≡ Ok tt
+step_read : (f : ℕ) (bs : List ℕ) (m t : SymbolMachine) → going bs m ≡ true → step_of bs m ≡ Ok t → ran f bs t ≡ Ok tt → ran (suc f) bs m ≡ Ok tt
 step_read f bs m t go e r = cond-true (going bs m) _ _ go ∙ ap (λ (s : Step). next s (ran f bs)) e ∙ r
 
 -- the steps left after a step
-less : (f : ℕ) (bs : List ℕ) (m t : Machine) → length bs - m.at ≤ suc f → m.at < length bs → step_of bs m ≡ Ok t → length bs - t.at ≤ f
-less f bs m t h i e = let o = forward bs m t e in omega (arith, o.on)
-
--- a step at a byte x
-at_byte : (bs : List ℕ) (m : Machine) (x : ℕ) (rest : List ℕ) → drop m.at bs ≡ x ∷ rest → step_of bs m ≡ step_by bs m m.state (class_of x) x
-at_byte bs m x rest e = ap (λ (b : ℕ). step_by bs m m.state (class_of b) b) (first_of bs m.at x rest e).1
+less : (f : ℕ) (bs : List ℕ) (m t : SymbolMachine) → length bs - m.at ≤ suc f → m.at < length bs → step_of bs m ≡ Ok t → length bs - t.at ≤ f
+less f bs m t h i e = let o = forward bs m t e in omega arith
 
 inside_of : (bs : List ℕ) (p x : ℕ) (rest : List ℕ) → drop p bs ≡ x ∷ rest → ltb p (length bs) ≡ true
 inside_of bs p x rest e = lt-ltb _ _ (first_of bs p x rest e).0
+
+-- a step at a byte x
+at_byte : (bs : List ℕ) (m : SymbolMachine) (x : ℕ) (rest : List ℕ) → drop m.at bs ≡ x ∷ rest → step_of bs m ≡ step_by bs m m.state (class_of x) x
+at_byte bs m x rest e =
+    cond-true (ltb m.at (length bs)) _ _ (inside_of bs m.at x rest e) ∙ ap (λ (b : ℕ). step_by bs m m.state (class_of b) b) (first_of bs m.at x rest e).1
 
 not_nil : (bs ds rest : List ℕ) (p x : ℕ) → length bs - p ≤ 0 → drop p bs ≡ ds ++ x ∷ rest → ⊥
 not_nil bs ds rest p x h e =
@@ -52,16 +55,16 @@ name_byte : (b : ℕ) → nameable (class_of b) ≡ true → is Newline (class_o
 name_byte b nb =
     ⊎_elim (λ t. absurd (false≢true (sym (ap (λ (b : ℕ). nameable (class_of b)) (newline_byte b t)) ∙ nb))) (λ f. f) (cases_Bool (is Newline (class_of b)))
 
-named_step : (bs : List ℕ) (m : Machine) (l : Letter) (p k b : ℕ) → nameable (class_of b) ≡ true → k < max_name → step_by bs m (Name l p k) (class_of b) b ≡ Ok (moved m (Name l p (k + 1)))
+named_step : (bs : List ℕ) (m : SymbolMachine) (l : Letter) (p k b : ℕ) → nameable (class_of b) ≡ true → k < max_name → step_by bs m (Name l p k) (class_of b) b ≡ Ok (moved m (Name l p (k + 1)))
 named_step bs m l p k b nb h = cond-false _ _ _ (name_byte b nb) ∙ cond-true _ _ _ nb ∙ cond-false _ _ _ (lt-leb max_name k h)
 
-line_step : (bs : List ℕ) (m : Machine) (l : Letter) (p k : ℕ) → 1 ≤ k → InRange m.inputs l p → get_or m.seen (place l p) false ≡ false → named bs m l p k ≡ Ok (ended m (place l p))
-line_step bs m l p k some w free =
-    cond-false (eqb k 0) _ _ (ne_eqb k 0 (λ z. omega arith)) ∙ ap (marked bs m) (slot_within m.inputs l p w) ∙ cond-false (get_or m.seen (place l p) false) _ _ free
+line_step : (m : SymbolMachine) (l : Letter) (p k : ℕ) → 1 ≤ k → InRange m.inputs l p → get_or m.seen (place l p) true ≡ false → named m l p k ≡ Ok (ended m (place l p))
+line_step m l p k some w new =
+    cond-false (eqb k 0) _ _ (ne_eqb k 0 (λ z. omega arith)) ∙ ap (λ (o : Option ℕ). marked m (free m.seen o)) (slot_within m.inputs l p w) ∙ ap (marked m) (cond-false (get_or m.seen (place l p) true) None (Some (place l p)) new)
 
-place_step : (bs : List ℕ) (m : Machine) (l : Letter) (v q : ℕ) → number_at bs m.at ≡ Ok (v, q) → placed bs m l ≡ Ok (mk (Gap l v) q m.inputs m.seen)
+place_step : (bs : List ℕ) (m : SymbolMachine) (l : Letter) (v q : ℕ) → number_at bs m.at ≡ Ok (v, q) → placed bs m l ≡ Ok (mk (Gap l v) q m.inputs m.seen)
 place_step bs m l v q e =
-    ap (λ (r : Result (ℕ × ℕ) TextFault). up Text (located_in bs r) (λ v. Ok (record { state = Gap l v.0; at = v.1; inputs = m.inputs; seen = m.seen }))) e
+    ap (λ (r : Result (ℕ × ℕ) TextFault). up Text r (λ v. Ok (record { state = Gap l v.0; at = v.1; inputs = m.inputs; seen = m.seen }))) e
 
 -- a numeral begins with a digit
 numeral_first : (v : ℕ) (ds rest : List ℕ) → Numeral v ds → (d : ℕ) × (more : List ℕ) × (ds ++ rest ≡ d ∷ more) × (is Digit (class_of d) ≡ true)
@@ -95,9 +98,9 @@ module _ (f : ℕ) (bs : List ℕ) (ih : Fore f bs) where
   fore_start : (p n : ℕ) (z : List Bool) (ss : List Symbol) (rest : List ℕ) → length bs - p ≤ suc f → SymbolLines n ss (drop p bs) rest → Free z ss → Ending rest → ran (suc f) bs (mk Start p n z) ≡ Ok tt
   fore_start p n z [] rest h e free (inl end) =
       let long : length bs - p ≡ 0 = sym (length-drop p bs) ∙ ap length (e ∙ end) in
-      cond-false (going bs (mk Start p n z)) _ _ (past_end bs (mk Start p n z) (omega arith))
+      cond-false (going bs (mk Start p n z)) _ _ (past_end is_over (λ m. m.at) bs (mk Start p n z) (omega arith))
   fore_start p n z [] rest h e free (inr (more, end)) = move Start Comment p n z 99 (10 ∷ more) h (e ∙ end) refl refl (more, refl)
-  fore_start p n z (s ∷ ss) rest h (mid, line, lines) (new, free) ending =
+  fore_start p n z (s ∷ ss) rest h (mid, line, lines) (new, others) ending =
       fore_line p n z s.letter (line.ds ++ 32 ∷ (s.name ++ 10 ∷ mid)) h line.text (
         s.position,
         line.ds,
@@ -113,15 +116,15 @@ module _ (f : ℕ) (bs : List ℕ) (ih : Fore f bs) where
           bytes = line.bytes;
           range = line.range;
           free = new;
-          more = record { symbols = ss; rest = rest; lines = lines; free = free; ending = ending };
+          more = record { symbols = ss; rest = rest; lines = lines; free = others; ending = ending };
         },
       )
 
   fore_name : (l : Letter) (q k p n : ℕ) (z : List Bool) (name rest : List ℕ) → length bs - p ≤ suc f → drop p bs ≡ name ++ 10 ∷ rest → 1 ≤ k + length name → length name ≤ max_name - k → NameBytes name
-      → InRange n l q → get_or z (place l q) false ≡ false → Lines n (set z (place l q) true) rest → ran (suc f) bs (mk (Name l q k) p n z) ≡ Ok tt
+      → InRange n l q → get_or z (place l q) true ≡ false → Lines n (set z (place l q) true) rest → ran (suc f) bs (mk (Name l q k) p n z) ≡ Ok tt
   fore_name l q k p n z [] rest h e some few bytes range free more =
       let m = mk (Name l q k) p n z in
-      let s : step_of bs m ≡ Ok (ended m (place l q)) = at_byte bs m 10 rest e ∙ line_step bs m l q k (omega arith) range free in
+      let s : step_of bs m ≡ Ok (ended m (place l q)) = at_byte bs m 10 rest e ∙ line_step m l q k (omega arith) range free in
       step_read f bs m _ (inside_of bs p 10 rest e) s
       (ih Start (p + 1) n (set z (place l q) true) (less f bs m _ h (first_of bs p 10 rest e).0 s) (subst (Lines n (set z (place l q) true)) (sym (one_on bs p 10 rest e)) more))
   fore_name l q k p n z (b ∷ name) rest h e some few (nb, bytes) range free more =
@@ -152,4 +155,4 @@ fore (suc f) bs Comment p n z h (rest, e) = move f bs (fore f bs) Comment Done p
 fore (suc f) bs Done p n z h r = refl
 
 pub symbols_read : (bs : List ℕ) (p n : ℕ) → Lines n (replicate slots false) (drop p bs) → symbols_at bs p n ≡ Ok tt
-symbols_read bs p n r = fore (length bs) bs Start p n (replicate slots false) (omega arith) r
+symbols_read bs p n r = ap (λ (r : Result (Unit {0}) SymbolFault). result_map_both (λ u. u) (refused_at bs) r) (fore (length bs) bs Start p n (replicate slots false) (omega arith) r)

@@ -2,7 +2,8 @@
 --
 --   located_at bs e   the text fault e of the file bs with its line: that of its place, or 0 where the file is too long
 --   located_in bs r   the answer r of the text layer, a fault with its line
-use Rattle.std.specs.Prelude.{ℕ, List, Ok, Err, Result}
+use Rattle.std.specs.Prelude.{ℕ, List, Result}
+use Rattle.std.specs.Result.{result_map_both}
 use Rattle.faults.specs.declared.text.TextFault.{TextFault}
 use Rattle.faults.specs.declared.text.TextFault.TheVariants.{TooLong, Misfit, BadNumber}
 use Rattle.faults.specs.declared.circuit.Located.{Located}
@@ -19,8 +20,8 @@ abbrev pub located_at : List ℕ → TextFault → Located
 located_at bs e = record { fault = e; line = fault_line bs e }
 
 abbrev pub located_in : {X : Type 0} → List ℕ → Result X TextFault → Result X Located
-located_in bs (Ok x) = Ok x
-located_in bs (Err e) = Err (located_at bs e)
+located_in bs r = result_map_both (λ x. x) (located_at bs) r
 
-abbrev pub misfit_at : List ℕ → ℕ → CircuitFault
-misfit_at bs place = Text (located_at bs (Misfit place))
+-- what is said of a file with too many bytes
+abbrev pub too_long : CircuitFault
+too_long = Text (record { fault = TooLong; line = 0 })

@@ -6,12 +6,12 @@
 --   written     the file is a circuit within the limits, of this reading and these gates, each a pair of operands
 --   exactly     an answer and a table are those of the written circuit; where there is none, the file is refused and the
 --               table is 0
-use Rattle.std.specs.Prelude.{◌≡◌, ℕ, zero, suc, ◌+◌, ◌-◌, ◌*◌, ◌<◌, ◌≤◌, min, max, true, ◌⊎◌, List, [], ◌∷◌, ◌++◌, length, replicate, Ok, Err, codes, Result, slice_index, slice_index_or}
+use Rattle.std.specs.Prelude.{◌≡◌, ℕ, zero, suc, ◌+◌, ◌-◌, ◌*◌, ◌<◌, ◌≤◌, min, max, true, ◌⊎◌, List, [], ◌∷◌, ◌++◌, length, replicate, Ok, Err, codes, Result, slice_index_or}
 use Rattle.circuit.specs.declared.reading.Reading.{Reading}
 use Rattle.faults.specs.Reports.{max_file_bytes}
 use Rattle.faults.specs.declared.circuit.CircuitFault.{CircuitFault}
 use Rattle.text.specs.Classes.{class_of}
-use Rattle.text.specs.Numbers.{max_digits, decimal}
+use Rattle.text.specs.Numbers.{AllDigits, max_digits, decimal}
 use Rattle.aiger.specs.Lines.{Within}
 use Rattle.aiger.specs.Symbols.{max_name, nameable}
 use Rattle.aiger.specs.declared.header.Header.{Header}
@@ -22,7 +22,7 @@ use Rattle.aiger.specs.declared.states.Letter.TheVariants.{Input, Output}
 pub record Numeral (v : ℕ) (ds : List ℕ) : Type 0 where
   pub some : 1 ≤ length ds
   pub few : length ds ≤ max_digits
-  pub digit : (k : ℕ) → k < length ds → (48 ≤ slice_index ds k) × (slice_index ds k ≤ 57)
+  pub digit : AllDigits ds
   pub plain : slice_index_or ds 0 0 ≡ 48 → length ds ≡ 1
   pub value : decimal 0 ds ≡ v
 

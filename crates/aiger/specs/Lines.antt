@@ -12,7 +12,8 @@ use Rattle.faults.specs.declared.text.TextFault.{TextFault}
 use Rattle.faults.specs.declared.circuit.Rule.TheVariants.{InputCount, LatchCount, OutputCount, GateCount, HighestVariable, GateTable, InputLine, OutputLiteral, GateLiteral, Operand}
 use Rattle.faults.specs.declared.circuit.CircuitFault.{CircuitFault}
 use Rattle.faults.specs.declared.circuit.CircuitFault.TheVariants.{Text, Broken}
-use Rattle.text.specs.Lines.{next, item_at, numbers_at, header_at}
+use Rattle.text.specs.Runs.{next}
+use Rattle.text.specs.Lines.{item_at, numbers_at, header_at}
 use Rattle.aiger.specs.FaultLines.{located_in}
 use Rattle.aiger.specs.declared.header.Header.{Header}
 use Rattle.aiger.specs.declared.gates.Gate.{Gate}
@@ -56,9 +57,9 @@ abbrev pub inputs_at : List ℕ → ℕ → ℕ → ℕ → Result ℕ CircuitFa
 inputs_at bs p k zero = Ok p
 inputs_at bs p k (suc n) = up Text (located_in bs (item_at bs p 10)) (λ v. cond (v.0 == 2 * k) (inputs_at bs v.1 (k + 1) n) (Err (Broken InputLine (k + 1))))
 
--- the output's literal and the place after its line
-abbrev pub output_at : List ℕ → ℕ → Header → Result (ℕ × ℕ) CircuitFault
-output_at bs p h = up Text (located_in bs (item_at bs p 10)) (λ v. cond (nat_lt (2 * h.highest + 1) v.0) (Err (Broken OutputLiteral (h.inputs + 2))) (Ok v))
+-- the output's literal and the place after its line, of a circuit of this highest variable and so many inputs
+abbrev pub output_at : List ℕ → ℕ → ℕ → ℕ → Result (ℕ × ℕ) CircuitFault
+output_at bs p highest inputs = up Text (located_in bs (item_at bs p 10)) (λ v. cond (nat_lt (2 * highest + 1) v.0) (Err (Broken OutputLiteral (inputs + 2))) (Ok v))
 
 abbrev pub gate_in : List ℕ → Gate
 gate_in vs = record { own = slice_index vs 0; left = slice_index vs 1; right = slice_index vs 2 }

@@ -6,11 +6,10 @@
 use Rattle.std.specs.Prelude.{ℕ, cond, List, length, replicate, Ok, Err, Result, nat_lt}
 use Rattle.circuit.specs.declared.reading.Reading.{Reading}
 use Rattle.faults.specs.Reports.{max_file_bytes}
-use Rattle.faults.specs.declared.text.TextFault.TheVariants.{TooLong}
 use Rattle.faults.specs.declared.circuit.CircuitFault.{CircuitFault}
 use Rattle.faults.specs.declared.circuit.CircuitFault.TheVariants.{Text}
-use Rattle.text.specs.Lines.{next}
-use Rattle.aiger.specs.FaultLines.{located_at, located_in}
+use Rattle.text.specs.Runs.{next}
+use Rattle.aiger.specs.FaultLines.{too_long, located_in}
 use Rattle.aiger.specs.Lines.{keep, header_read, header_fits, inputs_at, output_at, gates_at}
 use Rattle.aiger.specs.Symbols.{symbols_at}
 use Rattle.aiger.specs.declared.header.Header.{Header}
@@ -26,13 +25,13 @@ rest_of bs h output g =
 -- the lines after the header
 abbrev pub body_of : List ℕ → List ℕ → Header → ℕ → Answer
 body_of bs t h p =
-    keep (λ e. e) t (inputs_at bs p 1 h.inputs) (λ q. keep (λ e. e) t (output_at bs q h) (λ o. rest_of bs h o.0 (gates_at bs h.inputs 0 h.gates o.1 t)))
+    keep (λ e. e) t (inputs_at bs p 1 h.inputs) (λ q. keep (λ e. e) t (output_at bs q h.highest h.inputs) (λ o. rest_of bs h o.0 (gates_at bs h.inputs 0 h.gates o.1 t)))
 
 abbrev pub lines_of : List ℕ → List ℕ → Answer
 lines_of bs t = keep Text t (located_in bs (header_read bs)) (λ h. keep (λ e. e) t (header_fits h.0 (length t)) (λ u. body_of bs t h.0 h.1))
 
 abbrev pub into_of : List ℕ → List ℕ → Answer
-into_of bs t = cond (nat_lt max_file_bytes (length bs)) (t, Err (Text (located_at bs TooLong))) (lines_of bs t)
+into_of bs t = cond (nat_lt max_file_bytes (length bs)) (t, Err too_long) (lines_of bs t)
 
 abbrev pub settled : ℕ → List ℕ → Result Reading CircuitFault → Answer
 settled n t (Ok r) = (t, Ok r)

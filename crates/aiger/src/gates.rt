@@ -1,10 +1,9 @@
 // The gate lines: a gate's own literal and its two operands.
 ghost use Rattle.std.specs.Prelude.{◌≡◌, ◌*◌, ◌<◌, ◌≤◌, length};
-ghost use Rattle.circuit.specs.Limits.{max_inputs, max_gates};
-ghost use Rattle.faults.specs.Reports.{max_file_bytes};
 ghost use Rattle.aiger.specs.Lines.{gate_at, gate_fits, words_of, gates_at};
 
-use crate::fault_lines::located;
+use crate::counts::Counts;
+use crate::file::File;
 use faults::{CircuitFault, Rule, TextFault};
 use text::triple_line;
 
@@ -25,16 +24,17 @@ fn gate_line(file: &[u8], at: usize) -> Result<(Gate, usize), TextFault>
 }
 
 impl Gate {
-    // Whether it may be gate `k`, from 0, of a circuit of so many inputs.
-    fn judge(self, inputs: u32, k: u32) -> Result<(), CircuitFault>
-        requires { (inputs ≤ max_inputs) × (k < max_gates) }
-        ensures { result ≡ gate_fits self inputs k }
+    // Whether it may be gate `k`, from 0, of a circuit of these counts.
+    fn judge(self, counts: Counts, k: u32) -> Result<(), CircuitFault>
+        requires { k < counts.gates }
+        ensures { result ≡ gate_fits self counts.inputs k }
     {
-        if self.own != 2 * (inputs + 1 + k) {
-            return Err(CircuitFault::Broken(Rule::GateLiteral, inputs + 3 + k));
+        let line = counts.inputs + 3 + k;
+        if self.own != 2 * (counts.inputs + 1 + k) {
+            return Err(CircuitFault::Broken(Rule::GateLiteral, line));
         }
         if self.left >= self.own || self.right >= self.own {
-            return Err(CircuitFault::Broken(Rule::Operand, inputs + 3 + k));
+            return Err(CircuitFault::Broken(Rule::Operand, line));
         }
         Ok(())
     }
@@ -43,29 +43,24 @@ impl Gate {
     fn words(self) -> (u32, u32)
         ensures { result ≡ words_of self }
     {
-        if self.left < self.right {
-            (self.right, self.left)
-        } else {
-            (self.left, self.right)
-        }
+        (self.left.max(self.right), self.left.min(self.right))
     }
 }
 
-// Reads the lines of `n` gates into the gate table, and gives the place after them.
+// Reads the gate lines into the gate table, and gives the place after them.
 pub fn gate_lines(
-    file: &[u8],
+    file: File,
     start: usize,
-    inputs: u32,
-    n: u32,
+    counts: Counts,
     table: &mut [u32],
 ) -> Result<usize, CircuitFault>
-    requires { (length file.now ≤ max_file_bytes) × ((inputs ≤ max_inputs) × ((n ≤ max_gates) × (2 * n ≤ length table.old))) }
-    ensures { (table.new, result) ≡ gates_at file.now inputs 0 n start table.old }
+    requires { 2 * counts.gates ≤ length table.old }
+    ensures { (table.new, result) ≡ gates_at file.entry.bytes.now counts.inputs 0 counts.gates start table.old }
 {
     let mut at = start;
-    for k in 0..n {
-        let (gate, end) = located(file, gate_line(file, at))?;
-        gate.judge(inputs, k)?;
+    for k in 0..counts.gates {
+        let (gate, end) = file.located(gate_line(file.bytes, at))?;
+        gate.judge(counts, k)?;
         let (larger, smaller) = gate.words();
         table[2 * k as usize] = larger;
         table[2 * k as usize + 1] = smaller;

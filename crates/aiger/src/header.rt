@@ -1,7 +1,8 @@
 // Line 1: the numbers of the circuit.
-ghost use Rattle.std.specs.Prelude.{◌≡◌, OnOk};
-ghost use Rattle.aiger.specs.Lines.{Within, header_read, header_fits};
+ghost use Rattle.std.specs.Prelude.{◌≡◌, ◌*◌, ◌≤◌, IfOk, OnOk, MatchResult};
+ghost use Rattle.aiger.specs.Lines.{header_read, header_fits};
 
+use crate::counts::Counts;
 use circuit::{MAX_GATES, MAX_INPUTS};
 use faults::{CircuitFault, Rule, TextFault};
 use text::header_line;
@@ -35,10 +36,11 @@ impl Header {
         ))
     }
 
-    // Whether the numbers keep the limits, for a gate table of so many words.
-    pub fn judge(self, words: usize) -> Result<(), CircuitFault>
-        ensures value { result ≡ header_fits self words }
-        ensures limits { OnOk result (Within self words) }
+    // The counts, if the numbers keep the limits, with a gate table of so many words.
+    pub fn judge(self, words: usize) -> Result<Counts, CircuitFault>
+        ensures value { MatchResult result (λ _. header_fits self words ≡ Ok tt) (λ e. header_fits self words ≡ Err e) }
+        ensures counts { IfOk result (λ c. (c.highest ≡ self.highest) × (c.inputs ≡ self.inputs) × (c.gates ≡ self.gates)) }
+        ensures room { OnOk result (2 * self.gates ≤ words) }
     {
         if self.inputs < 1 || self.inputs > MAX_INPUTS {
             return Err(CircuitFault::Broken(Rule::InputCount, 1));
@@ -58,6 +60,10 @@ impl Header {
         if words < 2 * self.gates as usize {
             return Err(CircuitFault::Broken(Rule::GateTable, 1));
         }
-        Ok(())
+        Ok(Counts {
+            highest: self.highest,
+            inputs: self.inputs,
+            gates: self.gates,
+        })
     }
 }

@@ -3,7 +3,8 @@
 // Promises that a file is accepted exactly when it is a written circuit within the limits, and what the table holds after.
 #![tactic(auto)]
 
-mod fault_lines;
+mod counts;
+mod file;
 mod gates;
 mod header;
 mod literals;

@@ -1,60 +1,82 @@
 // The symbol lines and the comment: where the machine stands and the class of the byte there say what it does.
-ghost use Rattle.std.specs.Prelude.{◌≡◌, ◌<◌, ◌≤◌, length};
-ghost use Rattle.circuit.specs.Limits.{max_inputs};
-ghost use Rattle.faults.specs.Reports.{max_file_bytes};
-ghost use Rattle.aiger.specs.Symbols.{slot_of, marked, split, step_of, going, end_of, symbols_at};
+ghost use Rattle.std.specs.Prelude.{◌≡◌, ◌<◌, IfSome};
+ghost use Rattle.aiger.specs.Symbols.{slots, free, slot_of, misfit_of, step_of, is_over, end_of, refused_at, symbols_at};
 
-use crate::fault_lines::{line_at, located, misfit};
-use crate::states::{Letter, SLOTS, State, slot};
-use faults::{CircuitFault, Rule};
-use text::{Class, class_of, number};
+use crate::counts::Counts;
+use crate::file::File;
+use crate::states::{Letter, SLOTS, State, SymbolFault, slot};
+use faults::{CircuitFault, Rule, TextFault};
+use text::{Class, Machine, class_of, number, run};
 
 // The most bytes of a name.
 const MAX_NAME: u8 = 64;
 
 #[derive(Clone, Copy)]
-pub struct Machine {
+pub struct SymbolMachine {
     state: State,
     at: usize,
     inputs: u32,
     seen: [bool; SLOTS],
 }
 
-impl Machine {
-    // Ends a symbol line: marks its position, which must be in range and new.
-    fn end_line(&mut self, file: &[u8], letter: Letter, position: u32) -> Result<(), CircuitFault>
-        requires { (length file.now ≤ max_file_bytes) × ((self.old.at < length file.now) × (self.old.inputs ≤ max_inputs)) }
-        ensures { (self.new, result) ≡ split self.old (marked file.now self.old (slot_of letter position self.old.inputs)) }
+impl SymbolMachine {
+    // The byte where the machine stands misfits.
+    fn misfit(&self) -> SymbolFault
+        ensures { result ≡ misfit_of self.now }
     {
-        let Some(place) = slot(letter, position, self.inputs) else {
-            return Err(CircuitFault::Broken(Rule::SymbolPosition, line_at(file, self.at)));
-        };
-        if self.seen[place] {
-            return Err(CircuitFault::Broken(Rule::SymbolPosition, line_at(file, self.at)));
+        SymbolFault::Text(TextFault::Misfit(self.at))
+    }
+
+    // The slot of a position, if the position is not too large and was not seen before.
+    fn free_slot(&self, letter: Letter, position: u32) -> Option<usize>
+        ensures value { result ≡ free self.now.seen (slot_of letter position self.now.inputs) }
+        ensures inside { IfSome result (λ place. place < slots) }
+    {
+        let place = slot(letter, position, self.inputs)?;
+        match self.seen.get(place) {
+            Some(seen) if !*seen => Some(place),
+            _ => None,
         }
-        self.seen[place] = true;
-        self.state = State::Start;
-        self.at += 1;
-        Ok(())
+    }
+}
+
+impl Machine for SymbolMachine {
+    type Fault = SymbolFault;
+
+    type Answer = ();
+
+    ghost over = { is_over };
+
+    ghost at = { λ m. m.at };
+
+    ghost after = { step_of };
+
+    ghost answer = { end_of };
+
+    fn is_over(&self) -> bool {
+        matches!(self.state, State::Done)
+    }
+
+    fn place(&self) -> usize {
+        self.at
     }
 
     // Takes in the byte where the machine stands, or the number that begins there.
-    fn step(&mut self, file: &[u8]) -> Result<(), CircuitFault>
-        requires { (length file.now ≤ max_file_bytes) × ((self.old.at < length file.now) × (self.old.inputs ≤ max_inputs)) }
-        ensures { (self.new, result) ≡ split self.old (step_of file.now self.old) }
-    {
-        let byte = file[self.at];
-        match (self.state, class_of(byte)) {
+    fn step(&mut self, file: &[u8]) -> Result<(), SymbolFault> {
+        let Some(byte) = file.get(self.at) else {
+            return Err(self.misfit());
+        };
+        match (self.state, class_of(*byte)) {
             (State::Start, Class::Letter) => {
-                self.state = match byte {
+                self.state = match *byte {
                     b'i' => State::Position(Letter::Input),
                     b'o' => State::Position(Letter::Output),
                     b'c' => State::Comment,
-                    _ => return Err(misfit(file, self.at)),
+                    _ => return Err(self.misfit()),
                 };
             }
             (State::Position(letter), Class::Digit) => {
-                let (position, end) = located(file, number(file, self.at))?;
+                let (position, end) = number(file, self.at)?;
                 self.state = State::Gap(letter, position);
                 self.at = end;
                 return Ok(());
@@ -67,60 +89,63 @@ impl Machine {
                 Class::Digit | Class::Blank | Class::Letter | Class::Mark,
             ) => {
                 if n >= MAX_NAME {
-                    return Err(misfit(file, self.at));
+                    return Err(self.misfit());
                 }
                 self.state = State::Name(letter, position, n + 1);
             }
             (State::Name(letter, position, n), Class::Newline) => {
                 if n == 0 {
-                    return Err(misfit(file, self.at));
+                    return Err(self.misfit());
                 }
-                return self.end_line(file, letter, position);
+                let Some(place) = self.free_slot(letter, position) else {
+                    return Err(SymbolFault::NoSlot(self.at));
+                };
+                self.seen[place] = true;
+                self.state = State::Start;
             }
             (State::Comment, Class::Newline) => {
                 self.state = State::Done;
             }
-            _ => return Err(misfit(file, self.at)),
+            _ => return Err(self.misfit()),
         }
         self.at += 1;
         Ok(())
     }
 
-    // Whether there is more to take in.
-    fn goes_on(&self, file: &[u8]) -> bool
-        ensures { result ≡ going file.now self.now }
-    {
-        match self.state {
-            State::Done => false,
-            _ => self.at < file.len(),
-        }
-    }
-
     // Whether the file may end here.
-    fn finish(&self, file: &[u8]) -> Result<(), CircuitFault>
-        requires { length file.now ≤ max_file_bytes }
-        ensures { result ≡ end_of file.now self.now }
-    {
+    fn finish(self) -> Result<(), SymbolFault> {
         match self.state {
             State::Start | State::Done => Ok(()),
-            _ => Err(misfit(file, self.at)),
+            _ => Err(self.misfit()),
+        }
+    }
+}
+
+// A fault of the machine, with its line.
+fn refused(file: File, fault: SymbolFault) -> CircuitFault
+    ensures { result ≡ refused_at file.entry.bytes.now fault }
+{
+    match fault {
+        SymbolFault::Text(fault) => CircuitFault::Text(file.locate(fault)),
+        SymbolFault::NoSlot(place) => {
+            CircuitFault::Broken(Rule::SymbolPosition, file.line_at(place))
         }
     }
 }
 
 // The symbol lines and what follows them, up to the end of the file.
-pub fn symbol_lines(file: &[u8], start: usize, inputs: u32) -> Result<(), CircuitFault>
-    requires { (length file.now ≤ max_file_bytes) × (inputs ≤ max_inputs) }
-    ensures { result ≡ symbols_at file.now start inputs }
+pub fn symbol_lines(file: File, start: usize, counts: Counts) -> Result<(), CircuitFault>
+    ensures { result ≡ symbols_at file.entry.bytes.now start counts.inputs }
 {
-    let mut machine = Machine {
+    let machine = SymbolMachine {
         state: State::Start,
         at: start,
-        inputs,
+        inputs: counts.inputs,
         seen: [false; SLOTS],
     };
-    while machine.goes_on(file) {
-        machine.step(file)?;
+    // `map_err` would do it: what a closure over a file gives is not seen by the proof.
+    match run(file.bytes, machine) {
+        Ok(()) => Ok(()),
+        Err(fault) => Err(refused(file, fault)),
     }
-    machine.finish(file)
 }

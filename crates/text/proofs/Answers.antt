@@ -1,10 +1,10 @@
 -- Answers one after the other: what a good one came from. Assumes nothing.
-use Rattle.std.proofs.Common.{◌≡◌, ℕ, suc, Bool, true, false, cond, List, [], ◌∷◌, length, Ok, Err, Result, refl, arith}
-use Rattle.text.specs.Lines.{next}
+use Rattle.std.proofs.Common.{◌≡◌, ℕ, suc, Bool, true, false, cond, List, [], ◌∷◌, length, Ok, Err, IfOk, Result, refl, arith}
+use Rattle.text.specs.Runs.{next}
 
 -- an answer is not both
 pub not_both : {X E : Type 0} (e : E) (x : X) → ◌≡◌ {A = Result X E} (Err e) (Ok x) → ⊥
-not_both e x h = let z : ◌≡◌ {A = ℕ} 0 1 = cc in omega arith
+not_both e x h = cc
 
 pub ok_same : {X E : Type 0} (x y : X) → ◌≡◌ {A = Result X E} (Ok x) (Ok y) → x ≡ y
 ok_same x y e = cc
@@ -21,6 +21,10 @@ in_test false r y f e = absurd (not_both f y e)
 pub next_ok : {X Y E : Type 0} (r : Result X E) (k : X → Result Y E) (y : Y) → next r k ≡ Ok y → (x : X) × (r ≡ Ok x) × (k x ≡ Ok y)
 next_ok (Ok x) k y e = (x, refl, e)
 next_ok (Err f) k y e = absurd (not_both f y e)
+
+pub next_if : {X Y E : Type 0} (r : Result X E) (k : X → Result Y E) (P : X → Type 0) (Q : Y → Type 0) → IfOk r P → ((x : X) → P x → IfOk (k x) Q) → IfOk (next r k) Q
+next_if (Ok x) k P Q p f = f x p
+next_if (Err e) k P Q p f = tt
 
 pub next_same : {X Y E : Type 0} (r : Result X E) (k h : X → Result Y E) → ((x : X) → r ≡ Ok x → k x ≡ h x) → next r k ≡ next r h
 next_same (Ok x) k h s = s x refl

@@ -1,12 +1,10 @@
--- The longest run of digits, place by place. Assumes nothing.
-use Rattle.std.proofs.Common.{◌≡◌, ℕ, suc, ◌+◌, ◌<◌, ◌≤◌, true, false, List, [], ◌∷◌, length, get_or, drop, ap, ◌∙◌, ⊎_elim, arith}
-use Rattle.text.specs.Numbers.{is_digit}
+-- The longest run of digits. Assumes nothing.
+use Rattle.std.proofs.Common.{◌≡◌, ℕ, zero, suc, ◌<◌, ◌≤◌, false, cond, List, [], ◌∷◌, length, get_or, drop, refl, ap, ◌∙◌, arith}
 use Rattle.std.proofs.lemmas.List.{at_drop_more, at_drop_all}
-use Rattle.std.proofs.lemmas.Bool.{cond-true, cond-false, cond_both, cases_lt, cases_Bool, and_parts, leb-true}
-use Rattle.text.specs.Numbers.{digits}
-
-pub digit_more : (bs : List ℕ) (i : ℕ) → i < length bs → is_digit (get_or bs i 0) ≡ true → digits (drop i bs) ≡ get_or bs i 0 ∷ digits (drop (i + 1) bs)
-digit_more bs i h e = at_drop_more digits bs i 0 h ∙ cond-true _ _ _ e
+use Rattle.std.proofs.lemmas.Bool.{cond-false, cond_both, and_parts, leb-true}
+use Rattle.std.proofs.lemmas.List.Sums.{take_while-cons}
+use Rattle.std.specs.List.{take_while}
+use Rattle.text.specs.Numbers.{is_digit, AllDigits, digits}
 
 pub digit_stop : (bs : List ℕ) (i : ℕ) → i < length bs → is_digit (get_or bs i 0) ≡ false → digits (drop i bs) ≡ []
 digit_stop bs i h e = at_drop_more digits bs i 0 h ∙ cond-false _ _ _ e
@@ -14,24 +12,13 @@ digit_stop bs i h e = at_drop_more digits bs i 0 h ∙ cond-false _ _ _ e
 pub digit_none : (bs : List ℕ) (i : ℕ) → length bs ≤ i → digits (drop i bs) ≡ []
 digit_none bs i h = at_drop_all digits bs i h
 
--- a run is no longer than what it is a run of
-pub digits_le : (bs : List ℕ) → length (digits bs) ≤ length bs
-digits_le [] = omega arith
-digits_le (b ∷ bs) = cond_both (is_digit b) (b ∷ digits bs) [] (λ l. length l ≤ suc (length bs)) (λ _. omega (arith, digits_le bs)) (λ _. omega arith)
+-- the longest run is what the library takes while it is digits
+pub digits_taken : (bs : List ℕ) → take_while is_digit bs ≡ digits bs
+digits_taken [] = refl
+digits_taken (b ∷ bs) = take_while-cons is_digit b bs ∙ ap (λ (l : List ℕ). cond (is_digit b) (b ∷ l) []) (digits_taken bs)
 
--- the front of a run that goes on
-pub record Front (bs : List ℕ) (i : ℕ) : Type 0 where
-  pub inside : i < length bs
-  pub low : 48 ≤ get_or bs i 0
-  pub high : get_or bs i 0 ≤ 57
-  pub rest : digits (drop i bs) ≡ get_or bs i 0 ∷ digits (drop (i + 1) bs)
-
-pub goes_on : (bs : List ℕ) (i : ℕ) → 0 < length (digits (drop i bs)) → Front bs i
-goes_on bs i h =
-    ⊎_elim
-    (λ l. ⊎_elim
-    (λ e. let p = and_parts _ _ e in record { inside = l; low = leb-true _ _ p.0; high = leb-true _ _ p.1; rest = digit_more bs i l e })
-    (λ e. absurd (omega (arith, ap length (digit_stop bs i l e))))
-    (cases_Bool (is_digit (get_or bs i 0))))
-    (λ l. absurd (omega (arith, ap length (digit_none bs i l))))
-    (cases_lt i (length bs))
+-- each byte of a run is a digit
+pub all_digits : (bs : List ℕ) → AllDigits (digits bs)
+all_digits [] k = λ h. absurd (omega arith)
+all_digits (b ∷ bs) zero = cond_both (is_digit b) (b ∷ digits bs) [] (λ l. 0 < length l → (48 ≤ get_or l 0 0) × (get_or l 0 0 ≤ 57)) (λ t h. let p = and_parts _ _ t in (leb-true _ _ p.0, leb-true _ _ p.1)) (λ _ h. absurd (omega arith))
+all_digits (b ∷ bs) (suc k) = cond_both (is_digit b) (b ∷ digits bs) [] (λ l. suc k < length l → (48 ≤ get_or l (suc k) 0) × (get_or l (suc k) 0 ≤ 57)) (λ t h. all_digits bs k (omega arith)) (λ _ h. absurd (omega arith))

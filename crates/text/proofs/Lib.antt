@@ -2,5 +2,6 @@ pub mod Table
 pub mod Digits
 pub mod Answers
 pub mod Bytes
-pub mod Run
+pub mod Runs
+pub mod LineSteps
 pub mod LineRun

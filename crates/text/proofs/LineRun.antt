@@ -4,18 +4,33 @@ use Rattle.std.proofs.lemmas.Bool.{cond-true, cond-false, cases_Bool, cases_lt, 
 use Rattle.faults.specs.declared.text.TextFault.{TextFault}
 use Rattle.faults.specs.declared.text.TextFault.TheVariants.{Misfit}
 use Rattle.text.specs.Numbers.{is_digit, judged, number_at}
-use Rattle.text.specs.Lines.{next, expect_at, item_at, numbers_at, word_at, header_at}
-use Rattle.text.specs.Steps.{on_to, counted, step_of, ended, ran, line_at, last_of, last_three_of, all_of}
-use Rattle.text.specs.declared.machine.Due.{Due}
-use Rattle.text.specs.declared.machine.Due.TheVariants.{Word, Gap, Number, End, Ended}
-use Rattle.text.specs.declared.machine.Machine.{Machine}
+use Rattle.text.specs.Runs.{next, run_of}
+use Rattle.text.specs.Lines.{expect_at, item_at, numbers_at, word_at, header_at}
+use Rattle.text.specs.Steps.{on_to, counted, step_by, step_of, is_ended, ended, end_of, fresh}
+use Rattle.text.specs.declared.line_machine.Due.{Due}
+use Rattle.text.specs.declared.line_machine.Due.TheVariants.{Word, Gap, Number, End, Ended}
+use Rattle.text.specs.declared.line_machine.LineMachine.{LineMachine}
 use Rattle.text.proofs.Answers.{next_ok, next_same, next_next, next_id, ok_same, of_three, of_five}
 use Rattle.text.proofs.Bytes.{blank_only, newline_only, digit_class, letter_due}
 use Rattle.text.proofs.Digits.{digit_stop, digit_none}
-use Rattle.text.proofs.Run.{Step, run, goes, stops}
+use Rattle.text.proofs.LineSteps.{forward}
+use Rattle.text.proofs.Runs
 
-abbrev mk : Due → ℕ → List ℕ → Machine
+abbrev mk : Due → ℕ → List ℕ → LineMachine
 mk s p vs = record { due = s; at = p; values = vs }
+
+-- the numbers and the place after them
+abbrev pub Line : Type 0
+Line = Result (List ℕ × ℕ) TextFault
+
+abbrev pub run : List ℕ → LineMachine → Line
+run bs m = run_of is_ended (λ m. m.at) step_of end_of bs m
+
+goes : (bs : List ℕ) (m : LineMachine) → cond (is_ended m) false (ltb m.at (length bs)) ≡ true → run bs m ≡ next (step_of bs m) (run bs)
+goes bs m e = Runs.goes is_ended (λ m. m.at) step_of end_of forward bs m e
+
+stops : (bs : List ℕ) (m : LineMachine) → cond (is_ended m) false (ltb m.at (length bs)) ≡ false → run bs m ≡ end_of m
+stops bs m e = Runs.stops is_ended (λ m. m.at) step_of end_of forward bs m e
 
 -- a byte that is due
 
@@ -26,22 +41,24 @@ expect_at_lem : (bs : List ℕ) (p x : ℕ) → p < length bs → expect_at bs p
 expect_at_lem bs p x h = ap (λ (t : Bool). cond (t && eqb (get_or bs p 0) x) (Ok (p + 1)) (Err (Misfit p))) (lt-ltb _ _ h)
 
 due_next : (bs : List ℕ) (p : ℕ) (vs : List ℕ) (d : Due) (t : Bool)
-    → next (cond t (Ok (mk d (p + 1) vs)) (Err (Misfit p))) (ran (length bs) bs) ≡ next (cond t (Ok (p + 1)) (Err (Misfit p))) (λ q. run bs (mk d q vs))
+    → next (cond t (Ok (mk d (p + 1) vs)) (Err (Misfit p))) (run bs) ≡ next (cond t (Ok (p + 1)) (Err (Misfit p))) (λ q. run bs (mk d q vs))
 due_next bs p vs d true = refl
 due_next bs p vs d false = refl
 
 module _ (bs : List ℕ) (s : Due) (p : ℕ) (vs : List ℕ) (on : ended s ≡ false) where
-  runs_on : p < length bs → run bs (mk s p vs) ≡ next (step_of bs (mk s p vs)) (ran (length bs) bs)
-  runs_on h = goes bs (mk s p vs) (cond-false _ _ _ on ∙ lt-ltb _ _ h)
+  runs_on : p < length bs → run bs (mk s p vs) ≡ next (step_by bs (mk s p vs) s (get_or bs p 0)) (run bs)
+  runs_on h =
+      goes bs (mk s p vs) (cond-false _ _ _ on ∙ lt-ltb _ _ h)
+      ∙ ap (λ (r : Result LineMachine TextFault). next r (run bs)) (cond-true (ltb p (length bs)) _ _ (lt-ltb _ _ h))
 
   runs_out : length bs ≤ p → run bs (mk s p vs) ≡ Err (Misfit p)
   runs_out h = stops bs (mk s p vs) (cond-false _ _ _ on ∙ le-ltb _ _ h) ∙ cond-false _ _ _ on
 
-  due_run : (d : Due) (x : ℕ) → step_of bs (mk s p vs) ≡ cond (eqb (get_or bs p 0) x) (Ok (on_to (mk s p vs) d)) (Err (Misfit p))
+  due_run : (d : Due) (x : ℕ) → step_by bs (mk s p vs) s (get_or bs p 0) ≡ cond (eqb (get_or bs p 0) x) (Ok (on_to (mk s p vs) d)) (Err (Misfit p))
       → run bs (mk s p vs) ≡ next (expect_at bs p x) (λ q. run bs (mk d q vs))
   due_run d x step =
       ⊎_elim
-      (λ h. runs_on h ∙ ap (λ (r : Step). next r (ran (length bs) bs)) step ∙ due_next bs p vs d (eqb (get_or bs p 0) x)
+      (λ h. runs_on h ∙ ap (λ (r : Result LineMachine TextFault). next r (run bs)) step ∙ due_next bs p vs d (eqb (get_or bs p 0) x)
       ∙ sym (ap (λ (r : Result ℕ TextFault). next r (λ q. run bs (mk d q vs))) (expect_at_lem bs p x h)))
       (λ h. runs_out h ∙ sym (ap (λ (r : Result ℕ TextFault). next r (λ q. run bs (mk d q vs))) (expect_past bs p x h)))
       (cases_lt p (length bs))
@@ -49,10 +66,10 @@ module _ (bs : List ℕ) (s : Due) (p : ℕ) (vs : List ℕ) (on : ended s ≡ f
 gap_run : (bs : List ℕ) (p k : ℕ) (vs : List ℕ) → run bs (mk (Gap k) p vs) ≡ next (expect_at bs p 32) (λ q. run bs (mk (Number k) q vs))
 gap_run bs p k vs = due_run bs (Gap k) p vs refl (Number k) 32 (ap (λ (t : Bool). cond t (Ok (mk (Number k) (p + 1) vs)) (Err (Misfit p))) (blank_only (get_or bs p 0)))
 
-end_run : (bs : List ℕ) (p : ℕ) (vs : List ℕ) → run bs (mk End p vs) ≡ next (expect_at bs p 10) (λ q. Ok (mk Ended q vs))
+end_run : (bs : List ℕ) (p : ℕ) (vs : List ℕ) → run bs (mk End p vs) ≡ next (expect_at bs p 10) (λ q. Ok (vs, q))
 end_run bs p vs =
     due_run bs End p vs refl Ended 10 (ap (λ (t : Bool). cond t (Ok (mk Ended (p + 1) vs)) (Err (Misfit p))) (newline_only (get_or bs p 0)))
-    ∙ next_same (expect_at bs p 10) (λ q. run bs (mk Ended q vs)) (λ q. Ok (mk Ended q vs)) (λ q e. stops bs (mk Ended q vs) refl)
+    ∙ next_same (expect_at bs p 10) (λ q. run bs (mk Ended q vs)) (λ q. Ok (vs, q)) (λ q e. stops bs (mk Ended q vs) refl)
 
 word_run : (bs : List ℕ) (p : ℕ) (vs : List ℕ) → run bs (mk (Word 0) p vs) ≡ next (expect_at bs p 97) (λ q. run bs (mk (Word 1) q vs))
 word_run bs p vs = due_run bs (Word 0) p vs refl (Word 1) 97 (letter_due (get_or bs p 0) 97 _ _ refl)
@@ -65,10 +82,10 @@ word_run2 bs p vs = due_run bs (Word 2) p vs refl (Gap 0) 103 (letter_due (get_o
 
 -- a number
 
-then_number : List ℕ → ℕ → List ℕ → ℕ × ℕ → Step
+then_number : List ℕ → ℕ → List ℕ → ℕ × ℕ → Line
 then_number bs k vs v = cond (ltb k 4) (run bs (mk (Gap (k + 1)) v.1 (set vs k v.0))) (run bs (mk End v.1 (set vs 4 v.0)))
 
-either : (bs : List ℕ) (t : Bool) (a b : Machine) → next (cond t (Ok a) (Ok b)) (ran (length bs) bs) ≡ cond t (run bs a) (run bs b)
+either : (bs : List ℕ) (t : Bool) (a b : LineMachine) → next (cond t (Ok a) (Ok b)) (run bs) ≡ cond t (run bs a) (run bs b)
 either bs true a b = refl
 either bs false a b = refl
 
@@ -77,11 +94,11 @@ unfolding then_number
 number_run bs p k vs =
     let m = mk (Number k) p vs in
     let b = get_or bs p 0 in
-    let N : Result (ℕ × ℕ) TextFault → Step = λ r. next r (then_number bs k vs) in
-    let S : Bool → Step = λ t. next (cond t (counted bs m k) (Err (Misfit p))) (ran (length bs) bs) in
+    let N : Result (ℕ × ℕ) TextFault → Line = λ r. next r (then_number bs k vs) in
+    let S : Bool → Line = λ t. next (cond t (counted bs m k) (Err (Misfit p))) (run bs) in
     ⊎_elim
     (λ h. runs_on bs (Number k) p vs refl h ∙ ap S (digit_class b) ∙ ⊎_elim
-    (λ d. ap S d ∙ next_next (number_at bs p) _ (ran (length bs) bs)
+    (λ d. ap S d ∙ next_next (number_at bs p) _ (run bs)
     ∙ next_same (number_at bs p) _ _ (λ v _. either bs (ltb k 4) (mk (Gap (k + 1)) v.1 (set vs k v.0)) (mk End v.1 (set vs 4 v.0))))
     (λ n. ap S n ∙ sym (ap (λ (l : List ℕ). N (judged p l)) (digit_stop bs p h n)))
     (cases_Bool (is_digit b)))
@@ -92,16 +109,16 @@ number_run bs p k vs =
 item_run : (bs : List ℕ) (p k : ℕ) (vs : List ℕ) → ltb k 4 ≡ true → run bs (mk (Number k) p vs) ≡ next (item_at bs p 32) (λ v. run bs (mk (Number (k + 1)) v.1 (set vs k v.0)))
 unfolding then_number
 item_run bs p k vs low =
-    let K : ℕ × ℕ → Step = λ v. run bs (mk (Number (k + 1)) v.1 (set vs k v.0)) in
+    let K : ℕ × ℕ → Line = λ v. run bs (mk (Number (k + 1)) v.1 (set vs k v.0)) in
     number_run bs p k vs
     ∙ next_same (number_at bs p) (then_number bs k vs) (λ v. next (next (expect_at bs v.1 32) (λ end. Ok (v.0, end))) K)
     (λ v e. cond-true (ltb k 4) _ _ low ∙ gap_run bs v.1 (k + 1) (set vs k v.0) ∙ sym (next_next (expect_at bs v.1 32) (λ end. Ok (v.0, end)) K))
     ∙ sym (next_next (number_at bs p) (λ v. next (expect_at bs v.1 32) (λ end. Ok (v.0, end))) K)
 
-last_run : (bs : List ℕ) (p : ℕ) (vs : List ℕ) → run bs (mk (Number 4) p vs) ≡ next (item_at bs p 10) (λ v. Ok (mk Ended v.1 (set vs 4 v.0)))
+last_run : (bs : List ℕ) (p : ℕ) (vs : List ℕ) → run bs (mk (Number 4) p vs) ≡ next (item_at bs p 10) (λ v. Ok (set vs 4 v.0, v.1))
 unfolding then_number
 last_run bs p vs =
-    let K : ℕ × ℕ → Step = λ v. Ok (mk Ended v.1 (set vs 4 v.0)) in
+    let K : ℕ × ℕ → Line = λ v. Ok (set vs 4 v.0, v.1) in
     number_run bs p 4 vs
     ∙ next_same (number_at bs p) (then_number bs 4 vs) (λ v. next (next (expect_at bs v.1 10) (λ end. Ok (v.0, end))) K)
     (λ v e. end_run bs v.1 (set vs 4 v.0) ∙ sym (next_next (expect_at bs v.1 10) (λ end. Ok (v.0, end)) K))
@@ -112,8 +129,8 @@ abbrev put : List ℕ → ℕ → List ℕ → List ℕ
 put vs k [] = vs
 put vs k (x ∷ xs) = put (set vs k x) (k + 1) xs
 
-abbrev after : List ℕ → ℕ → List ℕ × ℕ → Step
-after vs k r = Ok (mk Ended r.1 (put vs k r.0))
+abbrev after : List ℕ → ℕ → List ℕ × ℕ → Line
+after vs k r = Ok (put vs k r.0, r.1)
 
 line_run : (more : ℕ) (bs : List ℕ) (p k : ℕ) (vs : List ℕ) → k + more ≡ 4 → run bs (mk (Number k) p vs) ≡ next (numbers_at bs p more) (after vs k)
 line_run zero bs p k vs e =
@@ -141,24 +158,24 @@ numbers_count (suc more) bs p r e =
 abbrev none : List ℕ
 none = replicate 5 0
 
-abbrev pub value_in : Machine → Result (ℕ × ℕ) TextFault
-value_in m = Ok (last_of m)
+abbrev pub value_in : List ℕ × ℕ → Result (ℕ × ℕ) TextFault
+value_in l = Ok (get_or l.0 4 0, l.1)
 
-pub number_line_is : (bs : List ℕ) (p : ℕ) → next (line_at bs (Number 4) p) value_in ≡ item_at bs p 10
-number_line_is bs p = ap (λ (r : Step). next r value_in) (last_run bs p none) ∙ next_next (item_at bs p 10) _ value_in ∙ next_id (item_at bs p 10)
+pub number_line_is : (bs : List ℕ) (p : ℕ) → next (run bs (fresh (Number 4) p)) value_in ≡ item_at bs p 10
+number_line_is bs p = ap (λ (r : Line). next r value_in) (last_run bs p none) ∙ next_next (item_at bs p 10) _ value_in ∙ next_id (item_at bs p 10)
 
-abbrev pub triple_in : Machine → Result (List ℕ × ℕ) TextFault
-triple_in m = Ok (last_three_of m)
+abbrev pub triple_in : List ℕ × ℕ → Line
+triple_in l = Ok (get_or l.0 2 0 ∷ get_or l.0 3 0 ∷ get_or l.0 4 0 ∷ [], l.1)
 
-pub triple_line_is : (bs : List ℕ) (p : ℕ) → next (line_at bs (Number 2) p) triple_in ≡ numbers_at bs p 2
+pub triple_line_is : (bs : List ℕ) (p : ℕ) → next (run bs (fresh (Number 2) p)) triple_in ≡ numbers_at bs p 2
 triple_line_is bs p =
-    ap (λ (r : Step). next r triple_in) (line_run 2 bs p 2 none refl) ∙ next_next (numbers_at bs p 2) (after none 2) triple_in
-    ∙ next_same (numbers_at bs p 2) _ (λ r. Ok r) (λ r e. of_three (λ l. triple_in (mk Ended r.1 (put none 2 l)) ≡ Ok (l, r.1)) (λ a b c. refl) r.0 (numbers_count 2 bs p r e))
+    ap (λ (r : Line). next r triple_in) (line_run 2 bs p 2 none refl) ∙ next_next (numbers_at bs p 2) (after none 2) triple_in
+    ∙ next_same (numbers_at bs p 2) _ (λ r. Ok r) (λ r e. of_three (λ l. triple_in (put none 2 l, r.1) ≡ Ok (l, r.1)) (λ a b c. refl) r.0 (numbers_count 2 bs p r e))
     ∙ next_id (numbers_at bs p 2)
 
 word_is : (bs : List ℕ) (vs : List ℕ) → run bs (mk (Word 0) 0 vs) ≡ next (word_at bs) (λ s. run bs (mk (Number 0) s vs))
 word_is bs vs =
-    let N : ℕ → Step = λ s. run bs (mk (Number 0) s vs) in
+    let N : ℕ → Line = λ s. run bs (mk (Number 0) s vs) in
     word_run bs 0 vs
     ∙ next_same (expect_at bs 0 97) _ (λ p. next (next (expect_at bs p 97) (λ q. next (expect_at bs q 103) (λ r. expect_at bs r 32))) N) (λ p _.
     word_run1 bs p vs
@@ -168,13 +185,10 @@ word_is bs vs =
     ∙ sym (next_next (expect_at bs p 97) (λ q. next (expect_at bs q 103) (λ r. expect_at bs r 32)) N))
     ∙ sym (next_next (expect_at bs 0 97) (λ p. next (expect_at bs p 97) (λ q. next (expect_at bs q 103) (λ r. expect_at bs r 32))) N)
 
-abbrev pub header_in : Machine → Result (List ℕ × ℕ) TextFault
-header_in m = Ok (all_of m)
-
-pub header_line_is : (bs : List ℕ) → next (line_at bs (Word 0) 0) header_in ≡ header_at bs
+pub header_line_is : (bs : List ℕ) → run bs (fresh (Word 0) 0) ≡ header_at bs
 header_line_is bs =
-    ap (λ (r : Step). next r header_in) (word_is bs none) ∙ next_next (word_at bs) (λ s. run bs (mk (Number 0) s none)) header_in
+    word_is bs none
     ∙ next_same (word_at bs) _ (λ p. numbers_at bs p 4) (λ p _.
-    ap (λ (r : Step). next r header_in) (line_run 4 bs p 0 none refl) ∙ next_next (numbers_at bs p 4) (after none 0) header_in
-    ∙ next_same (numbers_at bs p 4) _ (λ r. Ok r) (λ r e. of_five (λ l. header_in (mk Ended r.1 (put none 0 l)) ≡ Ok (l, r.1)) (λ a b c d f. refl) r.0 (numbers_count 4 bs p r e))
+    line_run 4 bs p 0 none refl
+    ∙ next_same (numbers_at bs p 4) _ (λ r. Ok r) (λ r e. of_five (λ l. ◌≡◌ {A = Line} (Ok (put none 0 l, r.1)) (Ok (l, r.1))) (λ a b c d f. refl) r.0 (numbers_count 4 bs p r e))
     ∙ next_id (numbers_at bs p 4))

@@ -9,12 +9,8 @@
 use Rattle.std.specs.Prelude.{ℕ, zero, suc, ◌+◌, cond, ◌&&◌, List, [], ◌∷◌, length, Ok, Err, Result, ◌==◌, nat_lt, slice_index}
 use Rattle.faults.specs.declared.text.TextFault.{TextFault}
 use Rattle.faults.specs.declared.text.TextFault.TheVariants.{Misfit}
+use Rattle.text.specs.Runs.{next}
 use Rattle.text.specs.Numbers.{number_at}
-
--- go on with the value, or end with the fault
-abbrev pub next : {X Y E : Type 0} → Result X E → (X → Result Y E) → Result Y E
-next (Ok x) k = k x
-next (Err e) k = Err e
 
 abbrev pub expect_at : List ℕ → ℕ → ℕ → Result ℕ TextFault
 expect_at bs p b = cond (nat_lt p (length bs) && slice_index bs p == b) (Ok (p + 1)) (Err (Misfit p))

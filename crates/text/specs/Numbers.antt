@@ -4,7 +4,7 @@
 --   fair        a run of one to five digits, with no 0 before another
 --   number_at   the value of the run at a place and the place after it; no digit is a misfit at the place, and a run that
 --               is not fair is a bad number there
-use Rattle.std.specs.Prelude.{ℕ, ◌+◌, ◌-◌, ◌*◌, Bool, cond, not, ◌&&◌, ◌||◌, List, [], ◌∷◌, length, drop, Ok, Err, Result, ◌==◌, nat_le, slice_index}
+use Rattle.std.specs.Prelude.{ℕ, ◌+◌, ◌-◌, ◌*◌, ◌<◌, ◌≤◌, Bool, cond, not, ◌&&◌, ◌||◌, List, [], ◌∷◌, length, drop, Ok, Err, Result, ◌==◌, nat_le, slice_index}
 use Rattle.faults.specs.declared.text.TextFault.{TextFault}
 use Rattle.faults.specs.declared.text.TextFault.TheVariants.{Misfit, BadNumber}
 use Rattle.text.specs.Classes.{within}
@@ -14,6 +14,10 @@ max_digits = 5
 
 abbrev pub is_digit : ℕ → Bool
 is_digit b = within 48 57 b
+
+-- each byte is a digit
+abbrev pub AllDigits : List ℕ → Type 0
+AllDigits ds = (k : ℕ) → k < length ds → (48 ≤ slice_index ds k) × (slice_index ds k ≤ 57)
 
 -- the run at the front of a list of bytes
 abbrev pub digits : List ℕ → List ℕ

@@ -2,11 +2,10 @@
 --
 --   newlines       how many bytes of a list are newlines, byte 10
 --   line_of bs p   1 and the newlines before place p
-use Rattle.std.specs.Prelude.{ℕ, ◌+◌, cond, List, [], ◌∷◌, take, ◌==◌}
+use Rattle.std.specs.Prelude.{ℕ, ◌+◌, List, take, count_by, ◌==◌}
 
 abbrev pub newlines : List ℕ → ℕ
-newlines [] = 0
-newlines (b ∷ bs) = cond (b == 10) 1 0 + newlines bs
+newlines bs = count_by (λ b. b == 10) bs
 
 abbrev pub line_of : List ℕ → ℕ → ℕ
 line_of bs p = 1 + newlines (take p bs)

@@ -49,8 +49,5 @@ pub fn class_of(byte: u8) -> Class
 pub fn is_digit(byte: u8) -> bool
     ensures { result ≡ is_digit byte }
 {
-    match class_of(byte) {
-        Digit => true,
-        _ => false,
-    }
+    matches!(class_of(byte), Digit)
 }

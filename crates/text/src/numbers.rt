@@ -1,6 +1,7 @@
 // A number: the longest run of digits at a place.
-ghost use Rattle.std.specs.Prelude.{◌≡◌, ◌+◌, ◌<◌, ◌≤◌, length, drop, slice_index};
-ghost use Rattle.text.specs.Numbers.{max_digits, digits, decimal, fair, number_at};
+ghost use Rattle.std.specs.Prelude.{◌≡◌, ◌+◌, ◌<◌, ◌≤◌, length, drop, IfOk};
+ghost use Rattle.std.specs.List.{prefix_len};
+ghost use Rattle.text.specs.Numbers.{is_digit, AllDigits, max_digits, digits, decimal, fair, number_at};
 
 use crate::classes::is_digit;
 use faults::TextFault;
@@ -8,17 +9,21 @@ use faults::TextFault;
 // The most digits of a number.
 const MAX_DIGITS: usize = 5;
 
-// The place after the longest run of digits from `at`.
-fn run_end(file: &[u8], at: usize) -> usize
-    ensures value { result ≡ at + length (digits (drop at file.now)) }
-    ensures inside { at < result → at < length file.now }
-    ensures first { at < result → slice_index (digits (drop at file.now)) 0 ≡ slice_index file.now at }
+// How many digits stand in front.
+fn digit_count(bytes: &[u8]) -> usize
+    ensures { result ≡ prefix_len is_digit bytes.now }
 {
-    let mut end = at;
-    while end < file.len() && is_digit(file[end]) {
-        end += 1;
-    }
-    end
+    bytes.iter().take_while(|byte| is_digit(**byte)).count()
+}
+
+// The longest run of digits at `at`.
+fn run_at(file: &[u8], at: usize) -> &[u8]
+    ensures value { result.now ≡ digits (drop at file.now) }
+    ensures digits { AllDigits result.now }
+    ensures inside { 0 < length result.now → at + length result.now ≤ length file.now }
+{
+    let rest = file.get(at..).unwrap_or(&[]);
+    &rest[..digit_count(rest)]
 }
 
 // Whether a run of so many digits, of which the first is given, may be a number.
@@ -28,28 +33,27 @@ fn is_fair(first: u8, size: usize) -> bool
     size <= MAX_DIGITS && (first != b'0' || size == 1)
 }
 
-// The value of the run of digits from `at` to `end`.
-fn value_of(file: &[u8], at: usize, end: usize) -> u32
-    requires { (at + length (digits (drop at file.now)) ≡ end) × (end ≤ at + max_digits) }
-    ensures { result ≡ decimal 0 (digits (drop at file.now)) }
+// The value of a run of digits.
+fn value_of(run: &[u8]) -> u32
+    requires few { length run.now ≤ max_digits }
+    requires digits { AllDigits run.now }
+    ensures { result ≡ decimal 0 run.now }
 {
     let mut value: u32 = 0;
-    for i in at..end {
-        value = value * 10 + u32::from(file[i] - b'0');
+    for digit in run {
+        value = value * 10 + u32::from(*digit - b'0');
     }
     value
 }
 
 // The number at `at`, and the place after it.
 pub fn number(file: &[u8], at: usize) -> Result<(u32, usize), TextFault>
-    ensures { result ≡ number_at file.now at }
+    ensures value { result ≡ number_at file.now at }
+    ensures forward { IfOk result (λ v. at < v.1) }
 {
-    let end = run_end(file, at);
-    if end == at {
-        return Err(TextFault::Misfit(at));
+    match run_at(file, at) {
+        [] => Err(TextFault::Misfit(at)),
+        run @ [first, ..] if is_fair(*first, run.len()) => Ok((value_of(run), at + run.len())),
+        _ => Err(TextFault::BadNumber(at)),
     }
-    if !is_fair(file[at], end - at) {
-        return Err(TextFault::BadNumber(at));
-    }
-    Ok((value_of(file, at, end), end))
 }

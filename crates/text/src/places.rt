@@ -6,13 +6,6 @@ ghost use Rattle.text.specs.Places.{line_of};
 pub fn line_of(file: &[u8], place: usize) -> usize
     ensures { result ≡ line_of file.now place }
 {
-    let mut line = 1;
-    let mut i = 0;
-    while i < file.len() && i < place {
-        if file[i] == b'\n' {
-            line += 1;
-        }
-        i += 1;
-    }
-    line
+    let before = &file[..place.min(file.len())];
+    1 + before.iter().filter(|byte| **byte == b'\n').count()
 }

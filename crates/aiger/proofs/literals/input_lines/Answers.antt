@@ -21,18 +21,18 @@ line bs p k n r h e =
 
 pub returns-in_err-literal : goal.returns-in_err-literal
 returns-in_err-literal c =
-    let bs = c.args.file.now in
+    let bs = c.args.file.bytes.now in
     let p = err_from_is_err_and c.from_residual.result c.from_residual.ensures.1 in
-    p.1 ∙ ap Err p.2 ∙ sym (line bs c.loop-k.at c.loop-k.k c.args.n _ (omega arith) (c.in_err-literal.ensures ∙ ap (located_in bs) c.number_line.ensures)) ∙ c.loop-k.invariant
+    p.1 ∙ ap Err p.2 ∙ sym (line bs c.loop-k.at c.loop-k.k c.args.counts.inputs _ (omega arith) (c.in_err-literal.ensures ∙ ap (located_in bs) c.number_line.ensures)) ∙ c.loop-k.invariant
 
 pub returns-then-literal-k : goal.returns-then-literal-k
 returns-then-literal-k c =
-    let bs = c.args.file.now in
+    let bs = c.args.file.bytes.now in
     sym (cond-false _ _ _ (ne_eqb _ _ c.if-literal-k.true))
-    ∙ sym (line bs c.loop-k.at c.loop-k.k c.args.n _ (omega arith) (c.in_ok-literal.ensures ∙ ap (located_in bs) c.number_line.ensures)) ∙ c.loop-k.invariant
+    ∙ sym (line bs c.loop-k.at c.loop-k.k c.args.counts.inputs _ (omega arith) (c.in_ok-literal.ensures ∙ ap (located_in bs) c.number_line.ensures)) ∙ c.loop-k.invariant
 
 pub loop-k-preserved : goal.loop-k-preserved
 loop-k-preserved c =
-    let bs = c.args.file.now in
+    let bs = c.args.file.bytes.now in
     sym (cond-true _ _ _ (eq-eqb _ _ c.if-literal-k.false))
-    ∙ sym (line bs c.loop-k.at c.loop-k.k c.args.n _ (omega arith) (c.in_ok-literal.ensures ∙ ap (located_in bs) c.number_line.ensures)) ∙ c.loop-k.invariant
+    ∙ sym (line bs c.loop-k.at c.loop-k.k c.args.counts.inputs _ (omega arith) (c.in_ok-literal.ensures ∙ ap (located_in bs) c.number_line.ensures)) ∙ c.loop-k.invariant

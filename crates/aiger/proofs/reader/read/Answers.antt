@@ -3,9 +3,12 @@ use Rattle.aiger.specs.Reads.{Answer, read_of}
 use Rattle.aiger.proofs.Exact.{exact}
 use Rattle.aiger.proofs.reader.read.Goals as goal
 
-pub returns : goal.returns
-returns c =
-    let bs = c.args.file.now in
-    let n = length c.args.table.now in
-    let v : ◌≡◌ {A = Answer} (c.clear_if_refused.new.table, c.clear_if_refused.result) (read_of bs n) = search rules in
-    record { value = v; written = exact bs n c.clear_if_refused.new.table c.clear_if_refused.result v }
+pub returns-then-is_err-clause-written : goal.returns-then-is_err-clause-written
+returns-then-is_err-clause-written c =
+    let v : ◌≡◌ {A = Answer} (c.fill-then-is_err.new.self, c.read_into-answer.result) (read_of c.args.file.now (length c.args.table.now)) = search rules in
+    exact c.args.file.now (length c.args.table.now) _ _ v
+
+pub returns-else-is_err-clause-written : goal.returns-else-is_err-clause-written
+returns-else-is_err-clause-written c =
+    let v : ◌≡◌ {A = Answer} (c.read_into-answer.new.table, c.read_into-answer.result) (read_of c.args.file.now (length c.args.table.now)) = search rules in
+    exact c.args.file.now (length c.args.table.now) _ _ v

@@ -1,36 +1,25 @@
-use Rattle.std.proofs.Common.{◌≡◌, length, Ok, Err, Result, sym, ap, ◌∙◌, arith}
-use Rattle.std.proofs.lemmas.Result.{err_from_is_err_and}
-use Rattle.text.specs.Lines.{next}
-use Rattle.text.specs.Steps.{step_of, ran}
-use Rattle.faults.specs.declared.text.TextFault.{TextFault}
-use Rattle.text.specs.declared.machine.Machine.{Machine}
-use Rattle.text.proofs.Run.{forward, inside, goes, stops, split_ok, split_err}
+use Rattle.std.proofs.Common.{◌≡◌, false, length, refl, sym, ◌∙◌, arith}
+use Rattle.text.proofs.Runs.{past_end, left_more, left_none, split_ok}
+use Rattle.std.proofs.lemmas.Bool.{cond-true}
+use Rattle.text.specs.Runs.{going}
 use Rattle.text.proofs.machine.run.Goals as goal
+use Rattle.text.proofs.machine.run.Goals.{then-loop-machine-test+else-place-file, else-loop-machine-test}
+
+pub loop-machine-init : goal.loop-machine-init
+loop-machine-init g c = (length c.args.file.now, omega arith, refl)
 
 pub loop-machine-preserved : goal.loop-machine-preserved
-loop-machine-preserved c =
-    let bs = c.args.file.now in
-    let m = c.loop-machine.machine in
-    let e : step_of bs m ≡ Ok c.step.new.self = split_ok m c.step.new.self _ (step_of bs m) c.in_ok-step.ensures in
-    sym (goes bs m (sym c.loop-machine-test.ensures) ∙ ap (λ (r : Result Machine TextFault). next r (ran (length bs) bs)) e) ∙ c.loop-machine.invariant
-
-pub loop-machine-smaller : goal.loop-machine-smaller
-loop-machine-smaller c =
-    let bs = c.args.file.now in
-    let m = c.loop-machine.machine in
-    let e : step_of bs m ≡ Ok c.step.new.self = split_ok m c.step.new.self _ (step_of bs m) c.in_ok-step.ensures in
-    omega (arith, forward bs m _ e, inside bs m (sym c.loop-machine-test.ensures))
-
-pub returns-in_err-step : goal.returns-in_err-step
-returns-in_err-step c =
-    let bs = c.args.file.now in
-    let m = c.loop-machine.machine in
-    let p = err_from_is_err_and c.from_residual.result c.from_residual.ensures.1 in
-    let e = split_err m _ _ (step_of bs m) c.in_err-step.ensures in
-    p.1 ∙ ap Err p.2 ∙ sym (goes bs m (sym c.loop-machine-test.ensures) ∙ ap (λ (r : Result Machine TextFault). next r (ran (length bs) bs)) e) ∙ c.loop-machine.invariant
+loop-machine-preserved g c =
+    let m = g.M.Machine in
+    let e = split_ok c.loop-machine.machine c.step.new.self _ (m.after c.args.file.now c.loop-machine.machine) c.in_ok-step.ensures.value in
+    left_more m.over m.at m.after m.answer c.args.file.now c.loop-machine.machine c.step.new.self _ c.loop-machine.invariant (sym c.is_over.ensures ∙ c.loop-machine-test.true) (omega arith) e c.in_ok-step.ensures.forward
 
 pub returns : goal.returns
-returns c =
-    let bs = c.args.file.now in
-    let m = c.loop-machine.machine in
-    c.finish.ensures ∙ sym (stops bs m (sym c.loop-machine-test.ensures)) ∙ c.loop-machine.invariant
+returns g c =
+    let m = g.M.Machine in
+    let stop : going m.over m.at c.args.file.now c.loop-machine.machine ≡ false =
+    elim c.loop-machine-test.branch [
+      | then-loop-machine-test+else-place-file w ↦ past_end m.over m.at c.args.file.now c.loop-machine.machine (omega arith)
+      | else-loop-machine-test w ↦ cond-true _ _ _ (sym c.is_over.ensures ∙ w.loop-machine-test.false)
+    ] in
+    c.finish.ensures ∙ left_none m.over m.at m.after m.answer c.args.file.now c.loop-machine.machine _ c.loop-machine.invariant stop
