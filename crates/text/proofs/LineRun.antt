@@ -1,6 +1,6 @@
 -- A line of numbers by the machine is the line item by item. Assumes nothing.
-use Rattle.std.proofs.Common.{◌≡◌, ℕ, zero, suc, ◌+◌, ◌<◌, ◌≤◌, Bool, true, false, cond, ◌&&◌, eqb, ltb, List, [], ◌∷◌, length, get_or, set, replicate, Ok, Err, Result, sym, refl, ap, ◌∙◌, subst, ⊎_elim, arith}
-use Rattle.std.proofs.lemmas.Bool.{cond-true, cond-false, cases_Bool, cases_lt, le-ltb, lt-ltb, and_left}
+use Rattle.std.proofs.Common.{◌≡◌, ℕ, zero, suc, ◌+◌, Bool, true, false, cond, ◌&&◌, eqb, ltb, List, [], ◌∷◌, length, get_or, set, replicate, Ok, Err, Result, sym, refl, ap, ◌∙◌, subst, ⊎_elim, arith}
+use Rattle.std.proofs.lemmas.Bool.{cond-true, cond-false, cases_Bool, cases_lt, le-ltb, lt-ltb}
 use Rattle.faults.specs.declared.text.TextFault.{TextFault}
 use Rattle.faults.specs.declared.text.TextFault.TheVariants.{Misfit}
 use Rattle.text.specs.Numbers.{is_digit, judged, number_at}
@@ -32,57 +32,41 @@ goes bs m e = Runs.goes is_ended (λ m. m.at) step_of end_of forward bs m e
 stops : (bs : List ℕ) (m : LineMachine) → cond (is_ended m) false (ltb m.at (length bs)) ≡ false → run bs m ≡ end_of m
 stops bs m e = Runs.stops is_ended (λ m. m.at) step_of end_of forward bs m e
 
+-- where the line has not ended: one step, and then the others
+runs_on : (bs : List ℕ) (s : Due) (p : ℕ) (vs : List ℕ) → ended s ≡ false → run bs (mk s p vs) ≡ next (step_of bs (mk s p vs)) (run bs)
+runs_on bs s p vs on =
+    ⊎_elim
+    (λ h. goes bs (mk s p vs) (cond-false _ _ _ on ∙ lt-ltb _ _ h))
+    (λ h. stops bs (mk s p vs) (cond-false _ _ _ on ∙ le-ltb _ _ h) ∙ cond-false _ _ _ on
+    ∙ sym (ap (λ (t : Bool). next (cond t (step_by bs (mk s p vs) s (get_or bs p 0)) (Err (Misfit p))) (run bs)) (le-ltb _ _ h)))
+    (cases_lt p (length bs))
+
 -- a byte that is due
 
-expect_past : (bs : List ℕ) (p x : ℕ) → length bs ≤ p → expect_at bs p x ≡ Err (Misfit p)
-expect_past bs p x h = cond-false _ _ _ (and_left (ltb p (length bs)) (eqb (get_or bs p 0) x) (le-ltb _ _ h))
+due_next : (bs : List ℕ) (p : ℕ) (vs : List ℕ) (d : Due) (t u : Bool)
+    → next (cond t (cond u (Ok (mk d (p + 1) vs)) (Err (Misfit p))) (Err (Misfit p))) (run bs) ≡ next (cond (t && u) (Ok (p + 1)) (Err (Misfit p))) (λ q. run bs (mk d q vs))
+due_next bs p vs d true true = refl
+due_next bs p vs d true false = refl
+due_next bs p vs d false u = refl
 
-expect_at_lem : (bs : List ℕ) (p x : ℕ) → p < length bs → expect_at bs p x ≡ cond (eqb (get_or bs p 0) x) (Ok (p + 1)) (Err (Misfit p))
-expect_at_lem bs p x h = ap (λ (t : Bool). cond (t && eqb (get_or bs p 0) x) (Ok (p + 1)) (Err (Misfit p))) (lt-ltb _ _ h)
-
-due_next : (bs : List ℕ) (p : ℕ) (vs : List ℕ) (d : Due) (t : Bool)
-    → next (cond t (Ok (mk d (p + 1) vs)) (Err (Misfit p))) (run bs) ≡ next (cond t (Ok (p + 1)) (Err (Misfit p))) (λ q. run bs (mk d q vs))
-due_next bs p vs d true = refl
-due_next bs p vs d false = refl
-
-module _ (bs : List ℕ) (s : Due) (p : ℕ) (vs : List ℕ) (on : ended s ≡ false) where
-  runs_on : p < length bs → run bs (mk s p vs) ≡ next (step_by bs (mk s p vs) s (get_or bs p 0)) (run bs)
-  runs_on h =
-      goes bs (mk s p vs) (cond-false _ _ _ on ∙ lt-ltb _ _ h)
-      ∙ ap (λ (r : Result LineMachine TextFault). next r (run bs)) (cond-true (ltb p (length bs)) _ _ (lt-ltb _ _ h))
-
-  runs_out : length bs ≤ p → run bs (mk s p vs) ≡ Err (Misfit p)
-  runs_out h = stops bs (mk s p vs) (cond-false _ _ _ on ∙ le-ltb _ _ h) ∙ cond-false _ _ _ on
-
-  due_run : (d : Due) (x : ℕ) → step_by bs (mk s p vs) s (get_or bs p 0) ≡ cond (eqb (get_or bs p 0) x) (Ok (on_to (mk s p vs) d)) (Err (Misfit p))
-      → run bs (mk s p vs) ≡ next (expect_at bs p x) (λ q. run bs (mk d q vs))
-  due_run d x step =
-      ⊎_elim
-      (λ h. runs_on h ∙ ap (λ (r : Result LineMachine TextFault). next r (run bs)) step ∙ due_next bs p vs d (eqb (get_or bs p 0) x)
-      ∙ sym (ap (λ (r : Result ℕ TextFault). next r (λ q. run bs (mk d q vs))) (expect_at_lem bs p x h)))
-      (λ h. runs_out h ∙ sym (ap (λ (r : Result ℕ TextFault). next r (λ q. run bs (mk d q vs))) (expect_past bs p x h)))
-      (cases_lt p (length bs))
+due_run : (bs : List ℕ) (s d : Due) (p x : ℕ) (vs : List ℕ) → ended s ≡ false
+    → step_by bs (mk s p vs) s (get_or bs p 0) ≡ cond (eqb (get_or bs p 0) x) (Ok (on_to (mk s p vs) d)) (Err (Misfit p))
+    → run bs (mk s p vs) ≡ next (expect_at bs p x) (λ q. run bs (mk d q vs))
+due_run bs s d p x vs on step =
+    runs_on bs s p vs on ∙ ap (λ (r : Result LineMachine TextFault). next (cond (ltb p (length bs)) r (Err (Misfit p))) (run bs)) step
+    ∙ due_next bs p vs d (ltb p (length bs)) (eqb (get_or bs p 0) x)
 
 gap_run : (bs : List ℕ) (p k : ℕ) (vs : List ℕ) → run bs (mk (Gap k) p vs) ≡ next (expect_at bs p 32) (λ q. run bs (mk (Number k) q vs))
-gap_run bs p k vs = due_run bs (Gap k) p vs refl (Number k) 32 (ap (λ (t : Bool). cond t (Ok (mk (Number k) (p + 1) vs)) (Err (Misfit p))) (blank_only (get_or bs p 0)))
+gap_run bs p k vs = due_run bs (Gap k) (Number k) p 32 vs refl (ap (λ (t : Bool). cond t (Ok (mk (Number k) (p + 1) vs)) (Err (Misfit p))) (blank_only (get_or bs p 0)))
 
 end_run : (bs : List ℕ) (p : ℕ) (vs : List ℕ) → run bs (mk End p vs) ≡ next (expect_at bs p 10) (λ q. Ok (vs, q))
 end_run bs p vs =
-    due_run bs End p vs refl Ended 10 (ap (λ (t : Bool). cond t (Ok (mk Ended (p + 1) vs)) (Err (Misfit p))) (newline_only (get_or bs p 0)))
+    due_run bs End Ended p 10 vs refl (ap (λ (t : Bool). cond t (Ok (mk Ended (p + 1) vs)) (Err (Misfit p))) (newline_only (get_or bs p 0)))
     ∙ next_same (expect_at bs p 10) (λ q. run bs (mk Ended q vs)) (λ q. Ok (vs, q)) (λ q e. stops bs (mk Ended q vs) refl)
-
-word_run : (bs : List ℕ) (p : ℕ) (vs : List ℕ) → run bs (mk (Word 0) p vs) ≡ next (expect_at bs p 97) (λ q. run bs (mk (Word 1) q vs))
-word_run bs p vs = due_run bs (Word 0) p vs refl (Word 1) 97 (letter_due (get_or bs p 0) 97 _ _ refl)
-
-word_run1 : (bs : List ℕ) (p : ℕ) (vs : List ℕ) → run bs (mk (Word 1) p vs) ≡ next (expect_at bs p 97) (λ q. run bs (mk (Word 2) q vs))
-word_run1 bs p vs = due_run bs (Word 1) p vs refl (Word 2) 97 (letter_due (get_or bs p 0) 97 _ _ refl)
-
-word_run2 : (bs : List ℕ) (p : ℕ) (vs : List ℕ) → run bs (mk (Word 2) p vs) ≡ next (expect_at bs p 103) (λ q. run bs (mk (Gap 0) q vs))
-word_run2 bs p vs = due_run bs (Word 2) p vs refl (Gap 0) 103 (letter_due (get_or bs p 0) 103 _ _ refl)
 
 -- a number
 
-then_number : List ℕ → ℕ → List ℕ → ℕ × ℕ → Line
+abbrev then_number : List ℕ → ℕ → List ℕ → ℕ × ℕ → Line
 then_number bs k vs v = cond (ltb k 4) (run bs (mk (Gap (k + 1)) v.1 (set vs k v.0))) (run bs (mk End v.1 (set vs 4 v.0)))
 
 either : (bs : List ℕ) (t : Bool) (a b : LineMachine) → next (cond t (Ok a) (Ok b)) (run bs) ≡ cond t (run bs a) (run bs b)
@@ -90,39 +74,35 @@ either bs true a b = refl
 either bs false a b = refl
 
 number_run : (bs : List ℕ) (p k : ℕ) (vs : List ℕ) → run bs (mk (Number k) p vs) ≡ next (number_at bs p) (then_number bs k vs)
-unfolding then_number
 number_run bs p k vs =
     let m = mk (Number k) p vs in
     let b = get_or bs p 0 in
-    let N : Result (ℕ × ℕ) TextFault → Line = λ r. next r (then_number bs k vs) in
-    let S : Bool → Line = λ t. next (cond t (counted bs m k) (Err (Misfit p))) (run bs) in
-    ⊎_elim
-    (λ h. runs_on bs (Number k) p vs refl h ∙ ap S (digit_class b) ∙ ⊎_elim
-    (λ d. ap S d ∙ next_next (number_at bs p) _ (run bs)
+    let N : List ℕ → Line = λ l. next (judged p l) (then_number bs k vs) in
+    let S : Bool → Bool → Line = λ t u. next (cond t (cond u (counted bs m k) (Err (Misfit p))) (Err (Misfit p))) (run bs) in
+    runs_on bs (Number k) p vs refl ∙ ap (S (ltb p (length bs))) (digit_class b)
+    ∙ ⊎_elim
+    (λ h. ap (λ t. S t (is_digit b)) (lt-ltb _ _ h) ∙ ⊎_elim
+    (λ d. ap (S true) d ∙ next_next (number_at bs p) _ (run bs)
     ∙ next_same (number_at bs p) _ _ (λ v _. either bs (ltb k 4) (mk (Gap (k + 1)) v.1 (set vs k v.0)) (mk End v.1 (set vs 4 v.0))))
-    (λ n. ap S n ∙ sym (ap (λ (l : List ℕ). N (judged p l)) (digit_stop bs p h n)))
+    (λ n. ap (S true) n ∙ sym (ap N (digit_stop bs p h n)))
     (cases_Bool (is_digit b)))
-    (λ h. runs_out bs (Number k) p vs refl h ∙ sym (ap (λ (l : List ℕ). N (judged p l)) (digit_none bs p h)))
+    (λ h. ap (λ t. S t (is_digit b)) (le-ltb _ _ h) ∙ sym (ap N (digit_none bs p h)))
     (cases_lt p (length bs))
 
--- an item and what follows it
-item_run : (bs : List ℕ) (p k : ℕ) (vs : List ℕ) → ltb k 4 ≡ true → run bs (mk (Number k) p vs) ≡ next (item_at bs p 32) (λ v. run bs (mk (Number (k + 1)) v.1 (set vs k v.0)))
-unfolding then_number
-item_run bs p k vs low =
-    let K : ℕ × ℕ → Line = λ v. run bs (mk (Number (k + 1)) v.1 (set vs k v.0)) in
+-- a number, the byte due after it, and what follows them
+due_item : (bs : List ℕ) (p k : ℕ) (vs : List ℕ) (x : ℕ) (K : ℕ × ℕ → Line)
+    → ((v : ℕ × ℕ) → then_number bs k vs v ≡ next (expect_at bs v.1 x) (λ end. K (v.0, end))) → run bs (mk (Number k) p vs) ≡ next (item_at bs p x) K
+due_item bs p k vs x K h =
     number_run bs p k vs
-    ∙ next_same (number_at bs p) (then_number bs k vs) (λ v. next (next (expect_at bs v.1 32) (λ end. Ok (v.0, end))) K)
-    (λ v e. cond-true (ltb k 4) _ _ low ∙ gap_run bs v.1 (k + 1) (set vs k v.0) ∙ sym (next_next (expect_at bs v.1 32) (λ end. Ok (v.0, end)) K))
-    ∙ sym (next_next (number_at bs p) (λ v. next (expect_at bs v.1 32) (λ end. Ok (v.0, end))) K)
+    ∙ next_same (number_at bs p) _ _ (λ v _. h v ∙ sym (next_next (expect_at bs v.1 x) (λ end. Ok (v.0, end)) K))
+    ∙ sym (next_next (number_at bs p) (λ v. next (expect_at bs v.1 x) (λ end. Ok (v.0, end))) K)
+
+item_run : (bs : List ℕ) (p k : ℕ) (vs : List ℕ) → ltb k 4 ≡ true → run bs (mk (Number k) p vs) ≡ next (item_at bs p 32) (λ v. run bs (mk (Number (k + 1)) v.1 (set vs k v.0)))
+item_run bs p k vs low =
+    due_item bs p k vs 32 (λ v. run bs (mk (Number (k + 1)) v.1 (set vs k v.0))) (λ v. cond-true (ltb k 4) _ _ low ∙ gap_run bs v.1 (k + 1) (set vs k v.0))
 
 last_run : (bs : List ℕ) (p : ℕ) (vs : List ℕ) → run bs (mk (Number 4) p vs) ≡ next (item_at bs p 10) (λ v. Ok (set vs 4 v.0, v.1))
-unfolding then_number
-last_run bs p vs =
-    let K : ℕ × ℕ → Line = λ v. Ok (set vs 4 v.0, v.1) in
-    number_run bs p 4 vs
-    ∙ next_same (number_at bs p) (then_number bs 4 vs) (λ v. next (next (expect_at bs v.1 10) (λ end. Ok (v.0, end))) K)
-    (λ v e. end_run bs v.1 (set vs 4 v.0) ∙ sym (next_next (expect_at bs v.1 10) (λ end. Ok (v.0, end)) K))
-    ∙ sym (next_next (number_at bs p) (λ v. next (expect_at bs v.1 10) (λ end. Ok (v.0, end))) K)
+last_run bs p vs = due_item bs p 4 vs 10 (λ v. Ok (set vs 4 v.0, v.1)) (λ v. end_run bs v.1 (set vs 4 v.0))
 
 -- the numbers in their places, from place k on
 abbrev put : List ℕ → ℕ → List ℕ → List ℕ
@@ -176,11 +156,12 @@ triple_line_is bs p =
 word_is : (bs : List ℕ) (vs : List ℕ) → run bs (mk (Word 0) 0 vs) ≡ next (word_at bs) (λ s. run bs (mk (Number 0) s vs))
 word_is bs vs =
     let N : ℕ → Line = λ s. run bs (mk (Number 0) s vs) in
-    word_run bs 0 vs
+    due_run bs (Word 0) (Word 1) 0 97 vs refl (letter_due (get_or bs 0 0) 97 _ _ refl)
     ∙ next_same (expect_at bs 0 97) _ (λ p. next (next (expect_at bs p 97) (λ q. next (expect_at bs q 103) (λ r. expect_at bs r 32))) N) (λ p _.
-    word_run1 bs p vs
+    due_run bs (Word 1) (Word 2) p 97 vs refl (letter_due (get_or bs p 0) 97 _ _ refl)
     ∙ next_same (expect_at bs p 97) _ (λ q. next (next (expect_at bs q 103) (λ r. expect_at bs r 32)) N) (λ q _.
-    word_run2 bs q vs ∙ next_same (expect_at bs q 103) _ (λ r. next (expect_at bs r 32) N) (λ r _. gap_run bs r 0 vs)
+    due_run bs (Word 2) (Gap 0) q 103 vs refl (letter_due (get_or bs q 0) 103 _ _ refl)
+    ∙ next_same (expect_at bs q 103) _ (λ r. next (expect_at bs r 32) N) (λ r _. gap_run bs r 0 vs)
     ∙ sym (next_next (expect_at bs q 103) (λ r. expect_at bs r 32) N))
     ∙ sym (next_next (expect_at bs p 97) (λ q. next (expect_at bs q 103) (λ r. expect_at bs r 32)) N))
     ∙ sym (next_next (expect_at bs 0 97) (λ p. next (expect_at bs p 97) (λ q. next (expect_at bs q 103) (λ r. expect_at bs r 32))) N)
