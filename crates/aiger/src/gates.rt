@@ -18,8 +18,7 @@ pub struct Gate {
 fn gate_line(file: &[u8], at: usize) -> Result<(Gate, usize), TextFault>
     ensures { result ≡ gate_at file.now at }
 {
-    let (literals, end) = triple_line(file, at)?;
-    let [own, left, right] = literals;
+    let ([own, left, right], end) = triple_line(file, at)?;
     Ok((Gate { own, left, right }, end))
 }
 

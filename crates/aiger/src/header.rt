@@ -22,8 +22,7 @@ impl Header {
     pub fn read(file: &[u8]) -> Result<(Header, usize), TextFault>
         ensures { result ≡ header_read file.now }
     {
-        let (fields, end) = header_line(file)?;
-        let [highest, inputs, latches, outputs, gates] = fields;
+        let ([highest, inputs, latches, outputs, gates], end) = header_line(file)?;
         Ok((
             Header {
                 highest,

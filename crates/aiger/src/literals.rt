@@ -12,7 +12,7 @@ pub fn input_lines(file: File, start: usize, counts: Counts) -> Result<usize, Ci
     ensures { result ≡ inputs_at file.entry.bytes.now start 1 counts.inputs }
 {
     let mut at = start;
-    for k in 1..counts.inputs + 1 {
+    for k in 1..=counts.inputs {
         let (literal, end) = file.located(number_line(file.bytes, at))?;
         if literal != 2 * k {
             return Err(CircuitFault::Broken(Rule::InputLine, k + 1));
