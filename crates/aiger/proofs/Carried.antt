@@ -8,6 +8,11 @@ pub up_ok : {X Y E F : Type 0} (f : E → F) (r : Result X E) (k : X → Result 
 up_ok f (Ok x) k y e = (x, refl, e)
 up_ok f (Err d) k y e = absurd (not_both (f d) y e)
 
+-- a good answer is what it is
+pub is_self : {X E : Type 0} (r : Result X E) → IfOk r (λ x. r ≡ Ok x)
+is_self (Ok x) = refl
+is_self (Err e) = tt
+
 pub up_if : {X Y E F : Type 0} (f : E → F) (r : Result X E) (k : X → Result Y F) (P : X → Type 0) (Q : Y → Type 0) → IfOk r P → ((x : X) → P x → IfOk (k x) Q) → IfOk (up f r k) Q
 up_if f (Ok x) k P Q p g = g x p
 up_if f (Err e) k P Q p g = tt

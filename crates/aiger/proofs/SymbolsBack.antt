@@ -1,13 +1,13 @@
 -- The symbol lines that the machine accepts are those of the grammar. Assumes nothing.
-use Rattle.std.proofs.Common.{◌≡◌, ℕ, zero, suc, ◌+◌, ◌-◌, ◌<◌, ◌≤◌, Bool, true, false, cond, eqb, ltb, leb, List, [], ◌∷◌, ◌++◌, length, get_or, drop, set, replicate, Some, None, Ok, Option, sym, refl, ap, ◌∙◌, subst, inl, inr, ⊎_elim, arith}
+use Rattle.std.proofs.Common.{◌≡◌, ℕ, zero, suc, ◌+◌, ◌-◌, ◌<◌, ◌≤◌, Bool, true, false, cond, eqb, ltb, leb, List, [], ◌∷◌, ◌++◌, length, get_or, drop, set, replicate, Some, None, Ok, IfOk, Option, sym, refl, ap, ◌∙◌, subst, inl, inr, ⊎_elim, arith}
 use Rattle.std.proofs.lemmas.List.{drop_more, drop_all}
-use Rattle.std.proofs.lemmas.Bool.{cond-true, cond-false, cases_Bool, eqb-true, eqb-false, ltb-false, leb-false}
+use Rattle.std.proofs.lemmas.Bool.{cond-true, cond-false, cond_both, cases_Bool, eqb-true, eqb-false, ltb-false, leb-false}
 use Rattle.text.specs.declared.classes.Class.TheVariants.{Digit, Blank, Newline, Letter as SmallLetter}
 use Rattle.text.specs.Classes.{class_of, is}
 use Rattle.text.specs.Numbers.{number_at}
-use Rattle.text.proofs.Answers.{not_both, ok_same, after_test, in_test, next_ok}
+use Rattle.text.proofs.Answers.{not_both, in_test, next_ok}
 use Rattle.text.proofs.Bytes.{newline_byte, blank_byte}
-use Rattle.aiger.specs.Symbols.{max_name, nameable, slots, slot_of, moved, starts, placed, longer, marked, named, step_by, step_of, free, is_done, is_over, end_of, first, refused_at, symbols_at}
+use Rattle.aiger.specs.Symbols.{max_name, nameable, slots, slot_of, starts, placed, longer, marked, named, step_by, step_of, free, is_done, is_over, end_of, first, refused_at, symbols_at}
 use Rattle.aiger.specs.Grammar.{letter_byte}
 use Rattle.aiger.specs.declared.states.Letter.{Letter}
 use Rattle.aiger.specs.declared.states.Letter.TheVariants.{Input, Output}
@@ -15,15 +15,15 @@ use Rattle.aiger.specs.declared.states.State.{State}
 use Rattle.aiger.specs.declared.states.State.TheVariants.{Start, Position, Gap, Name, Comment, Done}
 use Rattle.aiger.specs.declared.states.SymbolFault.TheVariants.{Text}
 use Rattle.aiger.specs.declared.symbols.SymbolMachine.{SymbolMachine}
-use Rattle.aiger.proofs.Carried.{up_ok, told_ok}
+use Rattle.aiger.proofs.Carried.{is_self, up_if, told_ok}
 use Rattle.aiger.proofs.NumberTexts.{number_back}
 use Rattle.text.proofs.Runs.{past_end, inside}
 use Rattle.aiger.proofs.SymbolSteps.{Step, going, ran, forward}
 use Rattle.aiger.proofs.SymbolTexts.{Lines, Named, Rest, RestAt, ended, slot_back}
 
--- what stands from the machine t on, where a step led from m to s
-from : (bs : List ℕ) (s t : SymbolMachine) → ◌≡◌ {A = Step} (Ok s) (Ok t) → RestAt bs t → RestAt bs s
-from bs s t e r = subst (λ (t : SymbolMachine). RestAt bs t) (sym (ok_same s t e)) r
+-- where a step goes well, and what may stand stands from the next machine on, R holds
+abbrev Back : List ℕ → Type 0 → Step → Type 0
+Back bs R r = IfOk r (λ t. RestAt bs t → R)
 
 -- a symbol line, from its letter on
 open_line : (n : ℕ) (z : List Bool) (l : Letter) (ts : List ℕ) → Rest n z (Position l) ts → Lines n z (letter_byte l ∷ ts)
@@ -47,66 +47,56 @@ open_line n z l ts (v, ds, rest, num, e, named) = record {
   ending = named.more.ending;
 }
 
-module _ (bs : List ℕ) (m t : SymbolMachine) (r : RestAt bs t) where
+module _ (bs : List ℕ) (m : SymbolMachine) where
   -- the byte where the machine stands
   abbrev At : ℕ → Type 0
   At b = drop m.at bs ≡ b ∷ drop (m.at + 1) bs
 
-  start_back : (b : ℕ) → At b → starts m b ≡ Ok t → Lines m.inputs m.seen (drop m.at bs)
-  start_back b d e =
+  letter_back : (l : Letter) (b : ℕ) → At b → b ≡ letter_byte l → Rest m.inputs m.seen (Position l) (drop (m.at + 1) bs) → Lines m.inputs m.seen (drop m.at bs)
+  letter_back l b d e r =
       let ts = drop (m.at + 1) bs in
-      let L : List ℕ → Type 0 = Lines m.inputs m.seen in
-      ⊎_elim
-      (λ i. let r' = from bs (moved m (Position Input)) t (sym (cond-true (eqb b 105) _ _ i) ∙ e) r in
-      subst L (sym (d ∙ ap (λ (b : ℕ). b ∷ ts) (eqb-true b 105 i))) (open_line m.inputs m.seen Input ts r'))
-      (λ i. ⊎_elim
-      (λ o. let r' = from bs (moved m (Position Output)) t (sym (cond-false (eqb b 105) _ _ i ∙ cond-true (eqb b 111) _ _ o) ∙ e) r in
-      subst L (sym (d ∙ ap (λ (b : ℕ). b ∷ ts) (eqb-true b 111 o))) (open_line m.inputs m.seen Output ts r'))
-      (λ o. let h = in_test (eqb b 99) (Ok (moved m Comment)) t _ (sym (cond-false (eqb b 105) _ _ i ∙ cond-false (eqb b 111) _ _ o) ∙ e) in
-      let r' : Rest m.inputs m.seen Comment ts = from bs (moved m Comment) t h.1 r in
-      record { symbols = []; rest = drop m.at bs; lines = refl; free = tt; ending = inr (r'.0, d ∙ (λ i. eqb-true b 99 h.0 i ∷ r'.1 i)) })
-      (cases_Bool (eqb b 111)))
-      (cases_Bool (eqb b 105))
+      subst (Lines m.inputs m.seen) (sym (d ∙ ap (λ (b : ℕ). b ∷ ts) e)) (open_line m.inputs m.seen l ts r)
 
-  place_back : (l : Letter) → placed bs m l ≡ Ok t → Rest m.inputs m.seen (Position l) (drop m.at bs)
-  place_back l e =
-      let v = up_ok Text (number_at bs m.at) _ t e in
-      let a = number_back bs m.at v.0 v.1 in
-      let r' : Rest m.inputs m.seen (Gap l v.0.0) (drop v.0.1 bs) = from bs (record { state = Gap l v.0.0; at = v.0.1; inputs = m.inputs; seen = m.seen }) t v.2 r in
-      (v.0.0, a.0, r'.0, a.1, a.2 ∙ ap (λ (x : List ℕ). a.0 ++ x) r'.1, r'.2)
+  start_back : (b : ℕ) → At b → Back bs (Lines m.inputs m.seen (drop m.at bs)) (starts m b)
+  start_back b d =
+      let B : Step → Type 0 = Back bs (Lines m.inputs m.seen (drop m.at bs)) in
+      cond_both (eqb b 105) _ _ B (λ i. letter_back Input b d (eqb-true b 105 i)) (λ _.
+      cond_both (eqb b 111) _ _ B (λ o. letter_back Output b d (eqb-true b 111 o)) (λ _.
+      cond_both (eqb b 99) _ _ B
+      (λ c r. record { symbols = []; rest = drop m.at bs; lines = refl; free = tt; ending = inr (r.0, d ∙ (λ i. eqb-true b 99 c i ∷ r.1 i)) })
+      (λ _. tt)))
 
-  name_back : (l : Letter) (p k b : ℕ) → At b → nameable (class_of b) ≡ true → longer m l p k ≡ Ok t → Named m.inputs m.seen l p k (drop m.at bs)
-  name_back l p k b d nb e =
-      let h = after_test (leb max_name k) (Ok (moved m (Name l p (k + 1)))) t _ e in
-      let r' : Named m.inputs m.seen l p (k + 1) (drop (m.at + 1) bs) = from bs (moved m (Name l p (k + 1))) t h.1 r in
-      let low : k < max_name = leb-false max_name k h.0 in
+  place_back : (l : Letter) → Back bs (Rest m.inputs m.seen (Position l) (drop m.at bs)) (placed bs m l)
+  place_back l =
+      up_if Text (number_at bs m.at) _ (λ v. number_at bs m.at ≡ Ok v) (λ t. RestAt bs t → Rest m.inputs m.seen (Position l) (drop m.at bs)) (is_self (number_at bs m.at))
+      (λ v e r. let a = number_back bs m.at v e in (v.0, a.0, r.0, a.1, a.2 ∙ ap (λ (x : List ℕ). a.0 ++ x) r.1, r.2))
+
+  name_back : (l : Letter) (p k b : ℕ) → At b → nameable (class_of b) ≡ true → Back bs (Named m.inputs m.seen l p k (drop m.at bs)) (longer m l p k)
+  name_back l p k b d nb =
+      cond_both (leb max_name k) _ _ (Back bs (Named m.inputs m.seen l p k (drop m.at bs))) (λ _. tt) (λ h r.
+      let low : k < max_name = leb-false max_name k h in
       record {
-        name = b ∷ r'.name;
-        rest = r'.rest;
-        text = d ∙ ap (λ (x : List ℕ). b ∷ x) r'.text;
+        name = b ∷ r.name;
+        rest = r.rest;
+        text = d ∙ ap (λ (x : List ℕ). b ∷ x) r.text;
         some = omega arith;
-        few = omega (arith, r'.few);
-        bytes = (nb, r'.bytes);
-        range = r'.range;
-        free = r'.free;
-        more = r'.more;
-      }
+        few = omega (arith, r.few);
+        bytes = (nb, r.bytes);
+        range = r.range;
+        free = r.free;
+        more = r.more;
+      })
 
-  mark_back : (o : Option ℕ) → marked m (free m.seen o) ≡ Ok t → (s : ℕ) × (o ≡ Some s) × (get_or m.seen s true ≡ false) × (◌≡◌ {A = Step} (Ok (ended m s)) (Ok t))
-  mark_back None e = absurd (not_both _ _ e)
-  mark_back (Some s) e =
-      ⊎_elim
-      (λ f. absurd (not_both _ _ (sym (ap (marked m) (cond-true (get_or m.seen s true) None (Some s) f)) ∙ e)))
-      (λ f. (s, refl, f, sym (ap (marked m) (cond-false (get_or m.seen s true) None (Some s) f)) ∙ e))
-      (cases_Bool (get_or m.seen s true))
+  mark_back : (R : Type 0) (o : Option ℕ) → ((s : ℕ) → o ≡ Some s → get_or m.seen s true ≡ false → RestAt bs (ended m s) → R) → Back bs R (marked m (free m.seen o))
+  mark_back R None f = tt
+  mark_back R (Some s) f = cond_both (get_or m.seen s true) None (Some s) (λ o. Back bs R (marked m o)) (λ _. tt) (λ e. f s refl e)
 
-  line_back : (l : Letter) (p k b : ℕ) → At b → b ≡ 10 → named m l p k ≡ Ok t → Named m.inputs m.seen l p k (drop m.at bs)
-  line_back l p k b d nb e =
-      let h = after_test (eqb k 0) (marked m (free m.seen (slot_of l p m.inputs))) t _ e in
-      let a = mark_back (slot_of l p m.inputs) h.1 in
-      let w = slot_back m.inputs l p a.0 a.1 in
-      let r' : Lines m.inputs (set m.seen a.0 true) (drop (m.at + 1) bs) = from bs (ended m a.0) t a.3 r in
-      let some : k ≡ 0 → ⊥ = eqb-false k 0 h.0 in
+  line_back : (l : Letter) (p k b : ℕ) → At b → b ≡ 10 → Back bs (Named m.inputs m.seen l p k (drop m.at bs)) (named m l p k)
+  line_back l p k b d nb =
+      let N : Type 0 = Named m.inputs m.seen l p k (drop m.at bs) in
+      cond_both (eqb k 0) _ _ (Back bs N) (λ _. tt) (λ z. mark_back N (slot_of l p m.inputs) (λ s es e r.
+      let w = slot_back m.inputs l p s es in
+      let some : k ≡ 0 → ⊥ = eqb-false k 0 z in
       record {
         name = [];
         rest = drop (m.at + 1) bs;
@@ -115,25 +105,25 @@ module _ (bs : List ℕ) (m t : SymbolMachine) (r : RestAt bs t) where
         few = omega arith;
         bytes = tt;
         range = w.0;
-        free = subst (λ (s : ℕ). get_or m.seen s true ≡ false) w.1 a.2;
-        more = subst (λ (s : ℕ). Lines m.inputs (set m.seen s true) (drop (m.at + 1) bs)) w.1 r';
-      }
+        free = subst (λ (s : ℕ). get_or m.seen s true ≡ false) w.1 e;
+        more = subst (λ (s : ℕ). Lines m.inputs (set m.seen s true) (drop (m.at + 1) bs)) w.1 r;
+      }))
 
   -- one step back
-  step_back : (s : State) (b : ℕ) → At b → step_by bs m s (class_of b) b ≡ Ok t → Rest m.inputs m.seen s (drop m.at bs)
-  step_back Start b d e = start_back b d (in_test (is SmallLetter (class_of b)) _ _ _ e).1
-  step_back (Position l) b d e = place_back l (in_test (is Digit (class_of b)) _ _ _ e).1
-  step_back (Gap l p) b d e =
-      let h = in_test (is Blank (class_of b)) _ _ _ e in
-      (drop (m.at + 1) bs, d ∙ ap (λ (b : ℕ). b ∷ drop (m.at + 1) bs) (blank_byte b h.0), from bs (moved m (Name l p 0)) t h.1 r)
-  step_back (Name l p k) b d e =
-      ⊎_elim
-      (λ i. line_back l p k b d (newline_byte b i) (sym (cond-true (is Newline (class_of b)) _ _ i) ∙ e))
-      (λ i. let h = in_test (nameable (class_of b)) (longer m l p k) t _ (sym (cond-false (is Newline (class_of b)) _ _ i) ∙ e) in name_back l p k b d h.0 h.1)
-      (cases_Bool (is Newline (class_of b)))
-  step_back Comment b d e =
-      (drop (m.at + 1) bs, d ∙ ap (λ (b : ℕ). b ∷ drop (m.at + 1) bs) (newline_byte b (in_test (is Newline (class_of b)) _ _ _ e).0))
-  step_back Done b d e = absurd (not_both _ _ e)
+  step_back : (s : State) (b : ℕ) → At b → Back bs (Rest m.inputs m.seen s (drop m.at bs)) (step_by bs m s (class_of b) b)
+  step_back Start b d = cond_both (is SmallLetter (class_of b)) _ _ (Back bs (Rest m.inputs m.seen Start (drop m.at bs))) (λ _. start_back b d) (λ _. tt)
+  step_back (Position l) b d = cond_both (is Digit (class_of b)) _ _ (Back bs (Rest m.inputs m.seen (Position l) (drop m.at bs))) (λ _. place_back l) (λ _. tt)
+  step_back (Gap l p) b d =
+      cond_both (is Blank (class_of b)) _ _ (Back bs (Rest m.inputs m.seen (Gap l p) (drop m.at bs)))
+      (λ t r. (drop (m.at + 1) bs, d ∙ ap (λ (b : ℕ). b ∷ drop (m.at + 1) bs) (blank_byte b t), r)) (λ _. tt)
+  step_back (Name l p k) b d =
+      let B : Step → Type 0 = Back bs (Rest m.inputs m.seen (Name l p k) (drop m.at bs)) in
+      cond_both (is Newline (class_of b)) _ _ B (λ i. line_back l p k b d (newline_byte b i))
+      (λ _. cond_both (nameable (class_of b)) _ _ B (λ nb. name_back l p k b d nb) (λ _. tt))
+  step_back Comment b d =
+      cond_both (is Newline (class_of b)) _ _ (Back bs (Rest m.inputs m.seen Comment (drop m.at bs)))
+      (λ t r. (drop (m.at + 1) bs, d ∙ ap (λ (b : ℕ). b ∷ drop (m.at + 1) bs) (newline_byte b t))) (λ _. tt)
+  step_back Done b d = tt
 
 stop_back : (bs : List ℕ) (p n : ℕ) (z : List Bool) (s : State) (u : Unit {0}) → cond (is_done s) false (ltb p (length bs)) ≡ false → end_of (record { state = s; at = p; inputs = n; seen = z }) ≡ Ok u
     → Rest n z s (drop p bs)
@@ -153,7 +143,7 @@ back (suc f) bs m u h e =
     let i = inside is_over (λ m. m.at) bs m go in
     let o = forward bs m a.0 a.1 in
     let r = back f bs a.0 u (omega arith) a.2 in
-    step_back bs m a.0 r m.state (get_or bs m.at 0) (drop_more bs m.at 0 i) (in_test (ltb m.at (length bs)) _ _ _ a.1).1)
+    subst (Back bs (RestAt bs m)) (in_test (ltb m.at (length bs)) _ _ _ a.1).1 (step_back bs m m.state (get_or bs m.at 0) (drop_more bs m.at 0 i)) r)
     (λ stop. stop_back bs m.at m.inputs m.seen m.state u stop (sym (cond-false (going bs m) _ _ stop) ∙ e))
     (cases_Bool (going bs m))
 
