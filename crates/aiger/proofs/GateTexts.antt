@@ -1,13 +1,13 @@
 -- The gate lines: what the reader accepts is what the grammar has, and the table holds its words. Assumes nothing.
-use Rattle.std.proofs.Common.{◌≡◌, ℕ, zero, suc, ◌+◌, ◌-◌, ◌*◌, ◌<◌, ◌≤◌, min, max, not, ◌||◌, eqb, leb, List, [], ◌∷◌, ◌++◌, length, drop, set, replicate, Ok, Result, sym, refl, ap, ◌∙◌, subst, append_assoc, arith}
+use Rattle.std.proofs.Common.{◌≡◌, ℕ, zero, suc, ◌+◌, ◌-◌, ◌*◌, ◌<◌, ◌≤◌, min, max, List, [], ◌∷◌, ◌++◌, length, drop, set, replicate, Ok, Result, sym, refl, ap, ◌∙◌, subst, append_assoc, arith}
 use Rattle.std.proofs.lemmas.List.{set_at, length-append}
-use Rattle.std.proofs.lemmas.Bool.{cond-false, eq-eqb, eqb-true, leb-false, lt-leb, or_parts, or_from, not-false, not_from_true}
+use Rattle.std.proofs.lemmas.Bool.Decides.{nat_tests}
 use Rattle.faults.specs.declared.text.TextFault.{TextFault}
 use Rattle.faults.specs.declared.circuit.CircuitFault.{CircuitFault}
 use Rattle.faults.specs.declared.circuit.CircuitFault.TheVariants.{Text}
 use Rattle.text.specs.Runs.{next}
 use Rattle.text.specs.Lines.{numbers_at}
-use Rattle.text.proofs.Answers.{ok_same, after_test, next_ok, of_three}
+use Rattle.text.proofs.Answers.{ok_same, next_ok, of_three}
 use Rattle.text.proofs.LineRun.{numbers_count}
 use Rattle.aiger.specs.FaultLines.{located_at, located_in}
 use Rattle.aiger.specs.Lines.{keep, gate_in, gate_at, gate_fits, wrote, gates_at}
@@ -42,16 +42,10 @@ gate_back bs p g e =
     (subst (λ (l : List ℕ). NumberLine l (drop p bs) (drop v.0.1 bs)) (sym all) (numbers_back 2 bs p v.0 v.1))
 
 fits_read : (i k : ℕ) (g : ℕ × ℕ) → g.0 < 2 * (i + 1 + k) → g.1 < 2 * (i + 1 + k) → gate_fits (gate_of (2 * (i + 1 + k)) g) i k ≡ Ok tt
-fits_read i k g l r =
-    let own = 2 * (i + 1 + k) in
-    cond-false (not (eqb own own)) _ _ (not_from_true _ (eq-eqb own own refl)) ∙ cond-false (leb own g.0 || leb own g.1) _ _ (or_from _ _ (lt-leb _ _ l) (lt-leb _ _ r))
+fits_read i k g l r = grind (arith, nat_tests)
 
 fits_back : (g : Gate) (i k : ℕ) (u : Unit {0}) → gate_fits g i k ≡ Ok u → (g.own ≡ 2 * (i + 1 + k)) × (g.left < g.own) × (g.right < g.own)
-fits_back g i k u e =
-    let a = after_test (not (eqb g.own (2 * (i + 1 + k)))) _ _ _ e in
-    let b = after_test (leb g.own g.left || leb g.own g.right) _ _ _ a.1 in
-    let c = or_parts _ _ b.0 in
-    (eqb-true _ _ (not-false _ a.0), leb-false _ _ c.0, leb-false _ _ c.1)
+fits_back g i k u e = (grind (arith, nat_tests), grind (arith, nat_tests), grind (arith, nat_tests))
 
 -- the table after gates from gate k on
 abbrev pub filled : List ℕ → ℕ → List (ℕ × ℕ) → List ℕ

@@ -1,11 +1,10 @@
 -- The header: what the reader accepts is what the grammar has, within the limits. Assumes nothing.
-use Rattle.std.proofs.Common.{◌≡◌, ℕ, ◌+◌, ◌*◌, not, ◌||◌, eqb, ltb, List, [], ◌∷◌, drop, Ok, Result, sym, refl, ap, ◌∙◌, subst}
-use Rattle.std.proofs.lemmas.Bool.{cond-false, eq-eqb, eqb-true, ltb-false, le-ltb, or_from, or_parts, not-false, not_from_true}
-use Rattle.circuit.specs.Limits.{max_inputs, max_gates}
+use Rattle.std.proofs.Common.{◌≡◌, ℕ, List, [], ◌∷◌, drop, Ok, Result, sym, refl, ap, ◌∙◌, subst, arith}
+use Rattle.std.proofs.lemmas.Bool.Decides.{nat_tests}
 use Rattle.faults.specs.declared.text.TextFault.{TextFault}
 use Rattle.text.specs.Runs.{next}
 use Rattle.text.specs.Lines.{expect_at, numbers_at, word_at, header_at}
-use Rattle.text.proofs.Answers.{ok_same, after_test, next_ok, of_five}
+use Rattle.text.proofs.Answers.{ok_same, next_ok, of_five}
 use Rattle.text.proofs.LineRun.{numbers_count}
 use Rattle.aiger.specs.Lines.{Within, header_in, header_read, header_fits}
 use Rattle.aiger.specs.Grammar.{NumberLine, HeaderLine}
@@ -54,29 +53,15 @@ header_back bs h e =
     )
 
 pub limits_read : (h : Header) (w : ℕ) → Within h w → header_fits h w ≡ Ok tt
-limits_read h w t =
-    cond-false (ltb h.inputs 1 || ltb max_inputs h.inputs) _ _ (or_from _ _ (le-ltb _ _ t.some) (le-ltb _ _ t.inputs))
-    ∙ cond-false (not (eqb h.latches 0)) _ _ (not_from_true _ (eq-eqb _ _ t.latches))
-    ∙ cond-false (not (eqb h.outputs 1)) _ _ (not_from_true _ (eq-eqb _ _ t.outputs))
-    ∙ cond-false (ltb max_gates h.gates) _ _ (le-ltb _ _ t.gates)
-    ∙ cond-false (not (eqb h.highest (h.inputs + h.latches + h.gates))) _ _ (not_from_true _ (eq-eqb _ _ t.highest))
-    ∙ cond-false (ltb w (2 * h.gates)) _ _ (le-ltb _ _ t.room)
+limits_read h w t = grind (arith, nat_tests)
 
 pub limits_back : (h : Header) (w : ℕ) (u : Unit {0}) → header_fits h w ≡ Ok u → Within h w
-limits_back h w u e =
-    let a = after_test (ltb h.inputs 1 || ltb max_inputs h.inputs) _ _ _ e in
-    let b = after_test (not (eqb h.latches 0)) _ _ _ a.1 in
-    let c = after_test (not (eqb h.outputs 1)) _ _ _ b.1 in
-    let d = after_test (ltb max_gates h.gates) _ _ _ c.1 in
-    let f = after_test (not (eqb h.highest (h.inputs + h.latches + h.gates))) _ _ _ d.1 in
-    let g = after_test (ltb w (2 * h.gates)) _ _ _ f.1 in
-    let i = or_parts _ _ a.0 in
-    record {
-      some = ltb-false _ _ i.0;
-      inputs = ltb-false _ _ i.1;
-      latches = eqb-true _ _ (not-false _ b.0);
-      outputs = eqb-true _ _ (not-false _ c.0);
-      gates = ltb-false _ _ d.0;
-      highest = eqb-true _ _ (not-false _ f.0);
-      room = ltb-false _ _ g.0;
-    }
+limits_back h w u e = record {
+  some = grind (arith, nat_tests);
+  inputs = grind (arith, nat_tests);
+  latches = grind (arith, nat_tests);
+  outputs = grind (arith, nat_tests);
+  gates = grind (arith, nat_tests);
+  highest = grind (arith, nat_tests);
+  room = grind (arith, nat_tests);
+}

@@ -1,7 +1,7 @@
 -- Lines of numbers: what the reader accepts is what the grammar has. Assumes nothing.
 use Rattle.std.proofs.Common.{◌≡◌, ℕ, zero, suc, ◌+◌, ◌-◌, ◌<◌, true, false, ◌&&◌, eqb, ltb, List, [], ◌∷◌, ◌++◌, length, get_or, drop, Ok, Result, sym, refl, ap, ◌∙◌, subst, add-zero, arith}
 use Rattle.std.proofs.lemmas.List.{drop_at, get_or-drop, length-drop, drop-drop, drop_more}
-use Rattle.std.proofs.lemmas.Bool.{cond-true, cond-false, cond_both, eq-eqb, ne_eqb, eqb-true, eqb-false, ltb-true, lt-ltb, le-leb, and_from, and_parts}
+use Rattle.std.proofs.lemmas.Bool.{cond-true, cond-false, cond_both, eq-eqb, eqb-true, eqb-false, ltb-true, lt-ltb, le-leb, and_from, and_parts}
 use Rattle.std.proofs.lemmas.Bool.Decides.{nat_tests}
 use Rattle.faults.specs.declared.text.TextFault.{TextFault}
 use Rattle.text.specs.Numbers.{is_digit, AllDigits, digits, decimal, fair, judged, number_at}
@@ -24,12 +24,7 @@ digits_run (b ∷ ds) x rest d e =
     cond-true _ _ _ is ∙ ap (λ (l : List ℕ). b ∷ l) (digits_run ds x rest (λ k h. d (suc k) (omega arith)) e)
 
 judge_numeral : (p v : ℕ) (ds : List ℕ) → Numeral v ds → judged p ds ≡ Ok (v, p + length ds)
-judge_numeral p v ds n =
-    let some = n.some in
-    let plain = n.plain in
-    let few = n.few in
-    let ok : fair (get_or ds 0 0) (length ds) ≡ true = grind (arith, nat_tests) in
-    cond-false _ _ _ (ne_eqb (length ds) 0 (λ z. omega arith)) ∙ cond-true _ _ _ ok ∙ ap (λ (w : ℕ). Ok (w, p + length ds)) n.value
+judge_numeral p v ds n = grind (arith, nat_tests)
 
 -- what stands from p on goes on after ds
 rest_at : (p : ℕ) (bs ds rest : List ℕ) → drop p bs ≡ ds ++ rest → drop (p + length ds) bs ≡ rest

@@ -1,6 +1,6 @@
 -- What may stand from a place on, by where the symbol machine stands there. Assumes nothing.
-use Rattle.std.proofs.Common.{◌≡◌, ℕ, ◌+◌, ◌-◌, ◌<◌, ◌≤◌, Bool, true, false, eqb, ltb, List, [], ◌∷◌, ◌++◌, length, get_or, drop, set, Some, None, Option, sym, arith}
-use Rattle.std.proofs.lemmas.Bool.{cond-true, cond_both, eq-eqb, eqb-true, ltb-true, lt-ltb}
+use Rattle.std.proofs.Common.{◌≡◌, ℕ, ◌+◌, ◌-◌, ◌≤◌, Bool, true, false, List, [], ◌∷◌, ◌++◌, length, get_or, drop, set, Some, arith}
+use Rattle.std.proofs.lemmas.Bool.Decides.{nat_tests}
 use Rattle.circuit.specs.Limits.{max_inputs}
 use Rattle.aiger.specs.Symbols.{max_name, slot_of}
 use Rattle.aiger.specs.Grammar.{Numeral, Symbol, InRange, NameBytes, SymbolLines, Ending}
@@ -57,16 +57,9 @@ ended m s = record { state = Start; at = m.at + 1; inputs = m.inputs; seen = set
 -- slots
 
 pub slot_within : (n : ℕ) (l : Letter) (p : ℕ) → InRange n l p → slot_of l p n ≡ Some (place l p)
-slot_within n Input p h = cond-true _ _ _ (lt-ltb p n h)
-slot_within n Output p h = cond-true _ _ _ (eq-eqb p 0 h)
-
-no_slot : {P : Type 0} (s : ℕ) → ◌≡◌ {A = Option ℕ} None (Some s) → P
-no_slot s e = absurd (let z : ◌≡◌ {A = ℕ} 0 1 = cc in omega arith)
+slot_within n Input p h = grind (arith, nat_tests)
+slot_within n Output p h = grind (arith, nat_tests)
 
 pub slot_back : (n : ℕ) (l : Letter) (p s : ℕ) → slot_of l p n ≡ Some s → InRange n l p × (s ≡ place l p)
-slot_back n Input p s =
-    let P : Option ℕ → Type 0 = λ o. o ≡ Some s → (p < n) × (s ≡ p) in
-    cond_both (ltb p n) (Some p) None P (λ t e. (ltb-true p n t, let h : p ≡ s = cc in sym h)) (λ _ e. no_slot s e)
-slot_back n Output p s =
-    let P : Option ℕ → Type 0 = λ o. o ≡ Some s → (p ≡ 0) × (s ≡ max_inputs) in
-    cond_both (eqb p 0) (Some max_inputs) None P (λ t e. (eqb-true p 0 t, let h : max_inputs ≡ s = cc in sym h)) (λ _ e. no_slot s e)
+slot_back n Input p s e = (grind (arith, nat_tests), grind (arith, nat_tests))
+slot_back n Output p s e = (grind (arith, nat_tests), grind (arith, nat_tests))
