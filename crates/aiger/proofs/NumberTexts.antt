@@ -41,13 +41,10 @@ digits_front (b ∷ bs) =
     cond_both (is_digit b) (b ∷ digits bs) [] (λ (l : List ℕ). b ∷ bs ≡ l ++ drop (length l) (b ∷ bs)) (λ _. ap (λ (l : List ℕ). b ∷ l) (digits_front bs)) (λ _. refl)
 
 judge_back : (p : ℕ) (v : ℕ × ℕ) (ds : List ℕ) → AllDigits ds → judged p ds ≡ Ok v → Numeral v.0 ds × (v.1 ≡ p + length ds)
-judge_back p v ds d e =
-    let some = after_test (eqb (length ds) 0) _ v _ e in
-    let t = in_test (fair (get_or ds 0 0) (length ds)) (Ok (decimal 0 ds, p + length ds)) v _ some.1 in
-    let ok : fair (get_or ds 0 0) (length ds) ≡ true = t.0 in
-    let ne : length ds ≡ 0 → ⊥ = eqb-false (length ds) 0 some.0 in
-    let same = ok_same (decimal 0 ds, p + length ds) v t.1 in
-    (record { some = omega arith; few = grind (arith, nat_tests); digit = d; plain = λ z. grind (arith, nat_tests); value = ap (λ (x : ℕ × ℕ). x.0) same }, ap (λ (x : ℕ × ℕ). x.1) (sym same))
+judge_back p v ds d e = (
+  record { some = grind (arith, nat_tests); few = grind (arith, nat_tests); digit = d; plain = λ z. grind (arith, nat_tests); value = grind (arith, nat_tests) },
+  grind (arith, nat_tests),
+)
 
 pub number_back : (bs : List ℕ) (p : ℕ) (v : ℕ × ℕ) → number_at bs p ≡ Ok v → (ds : List ℕ) × Numeral v.0 ds × (drop p bs ≡ ds ++ drop v.1 bs)
 number_back bs p v e =

@@ -12,15 +12,15 @@ ok_same x y e = cc
 -- a test before which a refusal stands
 pub after_test : {X E : Type 0} (t : Bool) (r : Result X E) (y : X) (f : E) → cond t (Err f) r ≡ Ok y → (t ≡ false) × (r ≡ Ok y)
 after_test false r y f e = (refl, e)
-after_test true r y f e = absurd (not_both f y e)
+after_test true r y f e = cc
 
 pub in_test : {X E : Type 0} (t : Bool) (r : Result X E) (y : X) (f : E) → cond t r (Err f) ≡ Ok y → (t ≡ true) × (r ≡ Ok y)
 in_test true r y f e = (refl, e)
-in_test false r y f e = absurd (not_both f y e)
+in_test false r y f e = cc
 
 pub next_ok : {X Y E : Type 0} (r : Result X E) (k : X → Result Y E) (y : Y) → next r k ≡ Ok y → (x : X) × (r ≡ Ok x) × (k x ≡ Ok y)
 next_ok (Ok x) k y e = (x, refl, e)
-next_ok (Err f) k y e = absurd (not_both f y e)
+next_ok (Err f) k y e = cc
 
 pub next_if : {X Y E : Type 0} (r : Result X E) (k : X → Result Y E) (P : X → Type 0) (Q : Y → Type 0) → IfOk r P → ((x : X) → P x → IfOk (k x) Q) → IfOk (next r k) Q
 next_if (Ok x) k P Q p f = f x p

@@ -65,9 +65,9 @@ module _ {M A E : Type 0} (over : M → Bool) (at : M → ℕ) (after : List ℕ
   stops m stop = enough (length bs) (suc (length bs)) m (omega arith) (omega arith) ∙ cond-false _ _ _ stop
 
 pub split_ok : {M E : Type 0} (m s : M) (u : Unit {0}) (r : Result M E) → ◌≡◌ {A = M × Result (Unit {0}) E} (s, Ok u) (split m r) → r ≡ Ok s
-split_ok {M = M} {E = E} m s u (Ok t) e = ap Ok (sym (ap (λ (x : M × Result (Unit {0}) E). x.0) e))
-split_ok {M = M} {E = E} m s u (Err d) e = absurd (not_both d u (sym (ap (λ (x : M × Result (Unit {0}) E). x.1) e)))
+split_ok m s u (Ok t) e = grind arith
+split_ok m s u (Err d) e = grind arith
 
 pub split_err : {M E : Type 0} (m s : M) (d : E) (r : Result M E) → ◌≡◌ {A = M × Result (Unit {0}) E} (s, Err d) (split m r) → r ≡ Err d
-split_err {M = M} {E = E} m s d (Ok t) e = absurd (not_both d tt (ap (λ (x : M × Result (Unit {0}) E). x.1) e))
-split_err {M = M} {E = E} m s d (Err f) e = let h : ◌≡◌ {A = Result (Unit {0}) E} (Err d) (Err f) = ap (λ (x : M × Result (Unit {0}) E). x.1) e in cc
+split_err m s d (Ok t) e = grind arith
+split_err m s d (Err f) e = grind arith
