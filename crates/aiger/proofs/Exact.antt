@@ -6,7 +6,7 @@ use Rattle.circuit.specs.declared.reading.Reading.{Reading}
 use Rattle.faults.specs.Reports.{max_file_bytes}
 use Rattle.faults.specs.declared.circuit.CircuitFault.{CircuitFault}
 use Rattle.faults.specs.declared.circuit.CircuitFault.TheVariants.{Text}
-use Rattle.text.proofs.Answers.{not_both, next_ok, ok_same}
+use Rattle.text.proofs.Answers.{next_ok, ok_same}
 use Rattle.aiger.specs.FaultLines.{too_long, located_at, located_in}
 use Rattle.aiger.specs.Lines.{Within, header_read, header_fits, inputs_at, output_at, gates_at}
 use Rattle.aiger.specs.Symbols.{slots, symbols_at}
@@ -53,7 +53,7 @@ into_read bs n r gs w =
 -- what is read is a written circuit
 
 long_back : (b : Bool) (t z : List ℕ) (e : CircuitFault) (a : Answer) (r : Reading) → ◌≡◌ {A = Answer} (cond b (t, Err e) a) (z, Ok r) → (b ≡ false) × (◌≡◌ {A = Answer} a (z, Ok r))
-long_back true t z e a r h = absurd (not_both e r (ap (λ (x : Answer). x.1) h))
+long_back true t z e a r h = grind arith
 long_back false t z e a r h = (refl, h)
 
 into_back : (bs : List ℕ) (n : ℕ) (r : Reading) (z : List ℕ) → ◌≡◌ {A = Answer} (into_of bs (replicate n 0)) (z, Ok r) → (gs : List (ℕ × ℕ)) × Written bs n r gs × (z ≡ gate_table n gs)
@@ -107,11 +107,11 @@ into_back bs n r z e =
 
 settled_ok : (n : ℕ) (a : List ℕ) (b : Result Reading CircuitFault) (z : List ℕ) (r : Reading) → ◌≡◌ {A = Answer} (settled n a b) (z, Ok r) → ◌≡◌ {A = Answer} (a, b) (z, Ok r)
 settled_ok n a (Ok x) z r e = e
-settled_ok n a (Err d) z r e = absurd (not_both d r (ap (λ (x : Answer). x.1) e))
+settled_ok n a (Err d) z r e = grind arith
 
 settled_err : (n : ℕ) (a : List ℕ) (b : Result Reading CircuitFault) (z : List ℕ) (d : CircuitFault) → ◌≡◌ {A = Answer} (settled n a b) (z, Err d) → z ≡ replicate n 0
-settled_err n a (Ok x) z d e = absurd (not_both d x (sym (ap (λ (x : Answer). x.1) e)))
-settled_err n a (Err f) z d e = sym (ap (λ (x : Answer). x.0) e)
+settled_err n a (Ok x) z d e = grind arith
+settled_err n a (Err f) z d e = grind arith
 
 pub exact : (bs : List ℕ) (n : ℕ) (z : List ℕ) (r : Result Reading CircuitFault) → ◌≡◌ {A = Answer} (z, r) (read_of bs n) → Exactly bs n z r
 exact bs n z r e =

@@ -1,14 +1,14 @@
 -- Lines of numbers: what the reader accepts is what the grammar has. Assumes nothing.
 use Rattle.std.proofs.Common.{◌≡◌, ℕ, zero, suc, ◌+◌, ◌-◌, ◌<◌, true, false, ◌&&◌, eqb, ltb, List, [], ◌∷◌, ◌++◌, length, get_or, drop, Ok, Result, sym, refl, ap, ◌∙◌, subst, add-zero, arith}
 use Rattle.std.proofs.lemmas.List.{drop_at, get_or-drop, length-drop, drop-drop, drop_more}
-use Rattle.std.proofs.lemmas.Bool.{cond-true, cond-false, cond_both, eq-eqb, eqb-true, eqb-false, ltb-true, lt-ltb, le-leb, and_from, and_parts}
+use Rattle.std.proofs.lemmas.Bool.{cond-true, cond-false, cond_both, eq-eqb, eqb-true, ltb-true, lt-ltb, le-leb, and_from, and_parts}
 use Rattle.std.proofs.lemmas.Bool.Decides.{nat_tests}
 use Rattle.faults.specs.declared.text.TextFault.{TextFault}
-use Rattle.text.specs.Numbers.{is_digit, AllDigits, digits, decimal, fair, judged, number_at}
+use Rattle.text.specs.Numbers.{is_digit, AllDigits, digits, judged, number_at}
 use Rattle.text.specs.Runs.{next}
 use Rattle.text.specs.Lines.{expect_at, item_at, numbers_at}
 use Rattle.text.proofs.Digits.{all_digits}
-use Rattle.text.proofs.Answers.{ok_same, after_test, in_test, next_ok}
+use Rattle.text.proofs.Answers.{ok_same, in_test, next_ok}
 use Rattle.aiger.specs.Grammar.{Numeral, NumberLine}
 
 abbrev Read : Type 0

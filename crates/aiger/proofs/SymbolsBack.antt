@@ -5,7 +5,7 @@ use Rattle.std.proofs.lemmas.Bool.{cond-true, cond-false, cond_both, cases_Bool,
 use Rattle.text.specs.declared.classes.Class.TheVariants.{Digit, Blank, Newline, Letter as SmallLetter}
 use Rattle.text.specs.Classes.{class_of, is}
 use Rattle.text.specs.Numbers.{number_at}
-use Rattle.text.proofs.Answers.{not_both, in_test, next_ok}
+use Rattle.text.proofs.Answers.{in_test, next_ok}
 use Rattle.text.proofs.Bytes.{newline_byte, blank_byte}
 use Rattle.aiger.specs.Symbols.{max_name, nameable, slots, slot_of, starts, placed, longer, marked, named, step_by, step_of, free, is_done, is_over, end_of, first, refused_at, symbols_at}
 use Rattle.aiger.specs.Grammar.{letter_byte}
@@ -128,10 +128,10 @@ module _ (bs : List ℕ) (m : SymbolMachine) where
 stop_back : (bs : List ℕ) (p n : ℕ) (z : List Bool) (s : State) (u : Unit {0}) → cond (is_done s) false (ltb p (length bs)) ≡ false → end_of (record { state = s; at = p; inputs = n; seen = z }) ≡ Ok u
     → Rest n z s (drop p bs)
 stop_back bs p n z Start u h e = record { symbols = []; rest = drop p bs; lines = refl; free = tt; ending = inl (drop_all p bs (ltb-false _ _ h)) }
-stop_back bs p n z (Position l) u h e = absurd (not_both _ _ e)
-stop_back bs p n z (Gap l q) u h e = absurd (not_both _ _ e)
-stop_back bs p n z (Name l q k) u h e = absurd (not_both _ _ e)
-stop_back bs p n z Comment u h e = absurd (not_both _ _ e)
+stop_back bs p n z (Position l) u h e = cc
+stop_back bs p n z (Gap l q) u h e = cc
+stop_back bs p n z (Name l q k) u h e = cc
+stop_back bs p n z Comment u h e = cc
 stop_back bs p n z Done u h e = tt
 
 back : (f : ℕ) (bs : List ℕ) (m : SymbolMachine) (u : Unit {0}) → length bs - m.at ≤ f → ran f bs m ≡ Ok u → RestAt bs m

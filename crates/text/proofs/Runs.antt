@@ -1,26 +1,19 @@
 -- A run of a machine whose steps go forward: the number of steps allowed does not matter. Assumes nothing.
 use Rattle.std.proofs.Common.{◌≡◌, ℕ, zero, suc, ◌-◌, ◌<◌, ◌≤◌, Bool, true, false, cond, List, length, Ok, Err, Result, sym, ap, ◌∙◌, refl, ⊎_elim, arith}
-use Rattle.std.proofs.lemmas.Bool.{cond-true, cond-false, cases_Bool, le-ltb, lt-ltb, ltb-true, false≢true}
+use Rattle.std.proofs.lemmas.Bool.Decides.{nat_tests}
+use Rattle.std.proofs.lemmas.Bool.{cond-true, cond-false, cases_Bool}
 use Rattle.text.specs.Runs.{next, split, going, ran, run_of}
-use Rattle.text.proofs.Answers.{not_both, next_same}
-
-none : (t : Bool) → cond t false false ≡ false
-none true = refl
-none false = refl
-
-second : (t x : Bool) → cond t false x ≡ true → x ≡ true
-second true x e = absurd (false≢true e)
-second false x e = e
+use Rattle.text.proofs.Answers.{next_same}
 
 module _ {M : Type 0} (over : M → Bool) (at : M → ℕ) (bs : List ℕ) where
   pub past_end : (m : M) → length bs ≤ at m → going over at bs m ≡ false
-  past_end m h = ap (cond (over m) false) (le-ltb _ _ h) ∙ none (over m)
+  past_end m h = grind (arith, nat_tests)
 
   pub inside : (m : M) → going over at bs m ≡ true → at m < length bs
-  inside m e = ltb-true _ _ (second (over m) _ e)
+  inside m e = grind (arith, nat_tests)
 
   goes_on : (m : M) → over m ≡ false → at m < length bs → going over at bs m ≡ true
-  goes_on m o h = cond-false _ _ _ o ∙ lt-ltb _ _ h
+  goes_on m o h = grind (arith, nat_tests)
 
 module _ {M A E : Type 0} (over : M → Bool) (at : M → ℕ) (after : List ℕ → M → Result M E) (answer : M → Result A E) (bs : List ℕ) where
   -- what is left of a run: steps enough for the bytes that are left
