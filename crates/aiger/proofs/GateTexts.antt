@@ -10,7 +10,7 @@ use Rattle.text.specs.Lines.{numbers_at}
 use Rattle.text.proofs.Answers.{ok_same, next_ok, of_three}
 use Rattle.text.proofs.LineRun.{numbers_count}
 use Rattle.aiger.specs.FaultLines.{located_at, located_in}
-use Rattle.aiger.specs.Lines.{keep, gate_in, gate_at, gate_fits, wrote, gates_at}
+use Rattle.aiger.specs.Lines.{gate_in, gate_at, gate_fits, wrote, gates_at}
 use Rattle.aiger.specs.Grammar.{NumberLine, GateLines, gate_words, gate_table}
 use Rattle.aiger.specs.declared.gates.Gate.{Gate}
 use Rattle.aiger.proofs.Carried.{keep_ok, told_ok}
@@ -60,9 +60,7 @@ gates_read (g ∷ gs) i k p bs t rest (mid, (l, r, line), more) =
     let a = gate_read bs p own g mid line in
     let b = gates_read gs i (k + 1) a.0 bs (wrote t k (gate_of 0 g)) rest (subst (λ (l : List ℕ). GateLines i (k + 1) gs l rest) (sym a.2) more) in (
       b.0,
-      ap (λ (r : GateRead). keep Text t (located_in bs r) (λ g. keep (λ e. e) t (gate_fits g.0 i k) (λ u. gates_at bs i (k + 1) (length gs) g.1 (wrote t k g.0)))) a.1
-          ∙ ap (λ (r : Result (Unit {0}) CircuitFault). keep (λ e. e) t r (λ u. gates_at bs i (k + 1) (length gs) a.0 (wrote t k (gate_of own g)))) (fits_read i k g l r)
-          ∙ b.1,
+      grind (arith, a.1, fits_read i k g l r, b.1),
       b.2,
     )
 

@@ -1,13 +1,13 @@
 -- The input lines and the output line: what the reader accepts is what the grammar has. Assumes nothing.
-use Rattle.std.proofs.Common.{◌≡◌, ℕ, zero, suc, ◌+◌, ◌*◌, ◌≤◌, cond, eqb, ltb, List, [], ◌∷◌, drop, Ok, Err, Result, sym, refl, ap, ◌∙◌, subst}
-use Rattle.std.proofs.lemmas.Bool.{cond-true, cond-false, eq-eqb, eqb-true, ltb-false, le-ltb}
+use Rattle.std.proofs.Common.{◌≡◌, ℕ, zero, suc, ◌+◌, ◌*◌, ◌≤◌, eqb, ltb, List, [], ◌∷◌, drop, Ok, Result, sym, refl, ap, subst, arith}
+use Rattle.std.proofs.lemmas.Bool.Decides.{nat_tests}
+use Rattle.std.proofs.lemmas.Bool.{eqb-true, ltb-false}
 use Rattle.faults.specs.declared.text.TextFault.{TextFault}
-use Rattle.faults.specs.declared.circuit.Rule.TheVariants.{InputLine, OutputLiteral}
-use Rattle.faults.specs.declared.circuit.CircuitFault.TheVariants.{Text, Broken}
+use Rattle.faults.specs.declared.circuit.CircuitFault.TheVariants.{Text}
 use Rattle.text.specs.Lines.{item_at}
 use Rattle.text.proofs.Answers.{ok_same, after_test, in_test}
 use Rattle.aiger.specs.FaultLines.{located_at, located_in}
-use Rattle.aiger.specs.Lines.{up, inputs_at, output_at}
+use Rattle.aiger.specs.Lines.{inputs_at, output_at}
 use Rattle.aiger.specs.Grammar.{NumberLine, InputLines}
 use Rattle.aiger.proofs.Carried.{up_ok, told_ok}
 use Rattle.aiger.proofs.NumberTexts.{number_line_read, number_line_back}
@@ -21,8 +21,7 @@ inputs_read (suc n) k p bs rest (mid, line, more) =
     let a = number_line_read bs p (2 * k) mid line in
     let b = inputs_read n (k + 1) a.0 bs rest (subst (λ (l : List ℕ). InputLines (k + 1) n l rest) (sym a.2) more) in (
       b.0,
-      ap (λ (r : Read). up Text (located_in bs r) (λ v. cond (eqb v.0 (2 * k)) (inputs_at bs v.1 (k + 1) n) (Err (Broken InputLine (k + 1))))) a.1
-          ∙ cond-true _ _ _ (eq-eqb (2 * k) (2 * k) refl) ∙ b.1,
+      grind (arith, nat_tests, a.1, b.1),
       b.2,
     )
 
@@ -39,8 +38,7 @@ pub output_read : (bs : List ℕ) (p v hi i : ℕ) (rest : List ℕ) → v ≤ 2
 output_read bs p v hi i rest low line =
     let a = number_line_read bs p v rest line in (
       a.0,
-      ap (λ (r : Read). up Text (located_in bs r) (λ v. cond (ltb (2 * hi + 1) v.0) (Err (Broken OutputLiteral (i + 2))) (Ok v))) a.1
-          ∙ cond-false _ _ _ (le-ltb _ _ low),
+      grind (arith, nat_tests, a.1),
       a.2,
     )
 
