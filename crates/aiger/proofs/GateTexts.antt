@@ -5,7 +5,6 @@ use Rattle.std.proofs.lemmas.Bool.Decides.{nat_tests}
 use Rattle.faults.specs.declared.text.TextFault.{TextFault}
 use Rattle.faults.specs.declared.circuit.CircuitFault.{CircuitFault}
 use Rattle.faults.specs.declared.circuit.CircuitFault.TheVariants.{Text}
-use Rattle.text.specs.Runs.{next}
 use Rattle.text.specs.Lines.{numbers_at}
 use Rattle.text.proofs.Answers.{ok_same, next_ok, of_three}
 use Rattle.text.proofs.LineRun.{numbers_count}
@@ -32,7 +31,7 @@ gate_read : (bs : List ℕ) (p own : ℕ) (g : ℕ × ℕ) (rest : List ℕ) →
     → (q : ℕ) × (gate_at bs p ≡ Ok (gate_of own g, q)) × (drop q bs ≡ rest)
 gate_read bs p own g rest line =
     let a = numbers_read (g.0 ∷ g.1 ∷ []) own bs p rest line in
-    (a.0, ap (λ (r : Result (List ℕ × ℕ) TextFault). next r (λ v. Ok (gate_in v.0, v.1))) a.1, a.2)
+    (a.0, grind (arith, a.1), a.2)
 
 gate_back : (bs : List ℕ) (p : ℕ) (g : Gate × ℕ) → gate_at bs p ≡ Ok g → NumberLine (literals g.0) (drop p bs) (drop g.1 bs)
 gate_back bs p g e =

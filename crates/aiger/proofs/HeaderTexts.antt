@@ -1,9 +1,7 @@
 -- The header: what the reader accepts is what the grammar has, within the limits. Assumes nothing.
-use Rattle.std.proofs.Common.{◌≡◌, ℕ, List, [], ◌∷◌, drop, Ok, Result, sym, refl, ap, ◌∙◌, subst, arith}
+use Rattle.std.proofs.Common.{◌≡◌, ℕ, List, [], ◌∷◌, drop, Ok, sym, refl, ap, ◌∙◌, subst, arith}
 use Rattle.std.proofs.lemmas.Bool.Decides.{nat_tests}
-use Rattle.faults.specs.declared.text.TextFault.{TextFault}
-use Rattle.text.specs.Runs.{next}
-use Rattle.text.specs.Lines.{expect_at, numbers_at, word_at, header_at}
+use Rattle.text.specs.Lines.{expect_at, word_at, header_at}
 use Rattle.text.proofs.Answers.{ok_same, next_ok, of_five}
 use Rattle.text.proofs.LineRun.{numbers_count}
 use Rattle.aiger.specs.Lines.{Within, header_in, header_read, header_fits}
@@ -21,13 +19,9 @@ header_read_lem bs h rest (mid, text, line) =
     let w3 = expect_read bs 2 103 _ w2.1 in
     let w4 = expect_read bs 3 32 _ w3.1 in
     let a = numbers_read (h.inputs ∷ h.latches ∷ h.outputs ∷ h.gates ∷ []) h.highest bs 4 rest (subst (λ (l : List ℕ). NumberLine (fields h) l rest) (sym w4.1) line) in
-    let word : word_at bs ≡ Ok 4 =
-    ap (λ (r : Result ℕ TextFault). next r (λ p. next (expect_at bs p 97) (λ q. next (expect_at bs q 103) (λ r. expect_at bs r 32)))) w1.0
-    ∙ ap (λ (r : Result ℕ TextFault). next r (λ q. next (expect_at bs q 103) (λ r. expect_at bs r 32))) w2.0
-    ∙ ap (λ (r : Result ℕ TextFault). next r (λ r. expect_at bs r 32)) w3.0 ∙ w4.0 in (
+    let word : word_at bs ≡ Ok 4 = grind (arith, w1.0, w2.0, w3.0, w4.0) in (
       a.0,
-      ap (λ (r : Result ℕ TextFault). next (next r (λ p. numbers_at bs p 4)) (λ v. Ok (header_in v.0, v.1))) word
-          ∙ ap (λ (r : Result (List ℕ × ℕ) TextFault). next r (λ v. Ok (header_in v.0, v.1))) a.1,
+      grind (arith, word, a.1),
       a.2,
     )
 

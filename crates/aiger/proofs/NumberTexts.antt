@@ -5,7 +5,6 @@ use Rattle.std.proofs.lemmas.Bool.{cond-true, cond-false, cond_both, eq-eqb, eqb
 use Rattle.std.proofs.lemmas.Bool.Decides.{nat_tests}
 use Rattle.faults.specs.declared.text.TextFault.{TextFault}
 use Rattle.text.specs.Numbers.{is_digit, AllDigits, digits, judged, number_at}
-use Rattle.text.specs.Runs.{next}
 use Rattle.text.specs.Lines.{expect_at, item_at, numbers_at}
 use Rattle.text.proofs.Digits.{all_digits}
 use Rattle.text.proofs.Answers.{ok_same, in_test, next_ok}
@@ -80,11 +79,8 @@ item_read : (bs : List ℕ) (p v x : ℕ) (ds rest : List ℕ) → Numeral v ds 
     → (q : ℕ) × (item_at bs p x ≡ Ok (v, q)) × (drop q bs ≡ rest)
 item_read bs p v x ds rest n nd e =
     let a = number_read bs p v x ds rest n nd e in
-    let b = expect_read bs a.0 x rest a.2 in (
-      a.0 + 1,
-      ap (λ (r : Read). next r (λ v. next (expect_at bs v.1 x) (λ end. Ok (v.0, end)))) a.1 ∙ ap (λ (r : Result ℕ TextFault). next r (λ end. Ok (v, end))) b.0,
-      b.1,
-    )
+    let b = expect_read bs a.0 x rest a.2 in
+    (a.0 + 1, grind (arith, a.1, b.0), b.1)
 
 item_back : (bs : List ℕ) (p x : ℕ) (v : ℕ × ℕ) → item_at bs p x ≡ Ok v → (ds : List ℕ) × Numeral v.0 ds × (drop p bs ≡ ds ++ x ∷ drop v.1 bs)
 item_back bs p x v e =
@@ -109,13 +105,12 @@ pub numbers_read : (vs : List ℕ) (v : ℕ) (bs : List ℕ) (p : ℕ) (rest : L
     → (q : ℕ) × (numbers_at bs p (length vs) ≡ Ok (v ∷ vs, q)) × (drop q bs ≡ rest)
 numbers_read [] v bs p rest (ds, num, e) =
     let a = item_read bs p v 10 ds rest num refl e in
-    (a.0, ap (λ (r : Read). next r (λ v. Ok (v.0 ∷ [], v.1))) a.1, a.2)
+    (a.0, grind (arith, a.1), a.2)
 numbers_read (w ∷ vs) v bs p rest (ds, mid, num, e, more) =
     let a = item_read bs p v 32 ds mid num refl e in
     let b = numbers_read vs w bs a.0 rest (subst (λ (l : List ℕ). NumberLine (w ∷ vs) l rest) (sym a.2) more) in (
       b.0,
-      ap (λ (r : Read). next r (λ v. next (numbers_at bs v.1 (length vs)) (λ vs. Ok (v.0 ∷ vs.0, vs.1)))) a.1
-          ∙ ap (λ (r : Result (List ℕ × ℕ) TextFault). next r (λ vs. Ok (v ∷ vs.0, vs.1))) b.1,
+      grind (arith, a.1, b.1),
       b.2,
     )
 
