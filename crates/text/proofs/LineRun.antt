@@ -1,6 +1,7 @@
 -- A line of numbers by the machine is the line item by item. Assumes nothing.
 use Rattle.std.proofs.Common.{◌≡◌, ℕ, zero, suc, ◌+◌, Bool, true, false, cond, ◌&&◌, eqb, ltb, List, [], ◌∷◌, length, get_or, set, replicate, Ok, Err, Result, sym, refl, ap, ◌∙◌, subst, ⊎_elim, arith}
-use Rattle.std.proofs.lemmas.Bool.{cond-true, cond-false, cases_Bool, cases_lt, le-ltb, lt-ltb}
+use Rattle.std.proofs.lemmas.Bool.Decides.{nat_tests}
+use Rattle.std.proofs.lemmas.Bool.{cond-true, cases_Bool, cases_lt, le-ltb, lt-ltb}
 use Rattle.faults.specs.declared.text.TextFault.{TextFault}
 use Rattle.faults.specs.declared.text.TextFault.TheVariants.{Misfit}
 use Rattle.text.specs.Numbers.{is_digit, judged, number_at}
@@ -10,7 +11,7 @@ use Rattle.text.specs.Steps.{on_to, counted, step_by, step_of, is_ended, ended, 
 use Rattle.text.specs.declared.line_machine.Due.{Due}
 use Rattle.text.specs.declared.line_machine.Due.TheVariants.{Word, Gap, Number, End, Ended}
 use Rattle.text.specs.declared.line_machine.LineMachine.{LineMachine}
-use Rattle.text.proofs.Answers.{next_ok, next_same, next_next, next_id, ok_same, of_three, of_five}
+use Rattle.text.proofs.Answers.{next_ok, next_same, next_next, next_id, of_three, of_five}
 use Rattle.text.proofs.Bytes.{blank_only, newline_only, digit_class, letter_due}
 use Rattle.text.proofs.Digits.{digit_stop, digit_none}
 use Rattle.text.proofs.LineSteps.{forward}
@@ -36,9 +37,8 @@ stops bs m e = Runs.stops is_ended (λ m. m.at) step_of end_of forward bs m e
 runs_on : (bs : List ℕ) (s : Due) (p : ℕ) (vs : List ℕ) → ended s ≡ false → run bs (mk s p vs) ≡ next (step_of bs (mk s p vs)) (run bs)
 runs_on bs s p vs on =
     ⊎_elim
-    (λ h. goes bs (mk s p vs) (cond-false _ _ _ on ∙ lt-ltb _ _ h))
-    (λ h. stops bs (mk s p vs) (cond-false _ _ _ on ∙ le-ltb _ _ h) ∙ cond-false _ _ _ on
-    ∙ sym (ap (λ (t : Bool). next (cond t (step_by bs (mk s p vs) s (get_or bs p 0)) (Err (Misfit p))) (run bs)) (le-ltb _ _ h)))
+    (λ h. let go = goes bs (mk s p vs) in grind (arith, nat_tests, go))
+    (λ h. let stop = stops bs (mk s p vs) in grind (arith, nat_tests, stop))
     (cases_lt p (length bs))
 
 -- a byte that is due
@@ -125,13 +125,11 @@ line_run (suc more) bs p k vs e =
 
 -- a line has as many numbers as it should
 pub numbers_count : (more : ℕ) (bs : List ℕ) (p : ℕ) (r : List ℕ × ℕ) → numbers_at bs p more ≡ Ok r → length r.0 ≡ suc more
-numbers_count zero bs p r e =
-    let v = next_ok (item_at bs p 10) _ r e in
-    sym (ap (λ (x : List ℕ × ℕ). length x.0) (ok_same (v.0.0 ∷ [], v.0.1) r v.2))
+numbers_count zero bs p r e = let v = next_ok (item_at bs p 10) _ r e in grind (arith, v.2)
 numbers_count (suc more) bs p r e =
     let v = next_ok (item_at bs p 32) _ r e in
     let vs = next_ok (numbers_at bs v.0.1 more) _ r v.2 in
-    sym (ap (λ (x : List ℕ × ℕ). length x.0) (ok_same (v.0.0 ∷ vs.0.0, vs.0.1) r vs.2)) ∙ ap suc (numbers_count more bs v.0.1 vs.0 vs.1)
+    grind (arith, vs.2, numbers_count more bs v.0.1 vs.0 vs.1)
 
 -- whole lines
 
