@@ -1,23 +1,21 @@
 -- The symbol lines of the grammar are accepted by the machine. Assumes nothing.
-use Rattle.std.proofs.Common.{◌≡◌, ℕ, zero, suc, ◌+◌, ◌-◌, ◌<◌, ◌≤◌, Bool, true, false, eqb, ltb, List, [], ◌∷◌, ◌++◌, length, get_or, drop, set, replicate, Some, None, Ok, Option, Result, sym, refl, ap, ◌∙◌, subst, inl, inr, ⊎_elim, arith}
+use Rattle.std.proofs.Common.{◌≡◌, ℕ, zero, suc, ◌+◌, ◌-◌, ◌<◌, ◌≤◌, Bool, true, false, ltb, List, [], ◌∷◌, ◌++◌, length, get_or, drop, set, replicate, Ok, Result, sym, refl, ap, ◌∙◌, subst, inl, inr, ⊎_elim, arith}
 use Rattle.std.specs.Result.{result_map_both}
 use Rattle.std.proofs.lemmas.List.{drop_all, length-append, length-drop}
-use Rattle.std.proofs.lemmas.Bool.{cond-true, cond-false, cases_Bool, ne_eqb, lt-ltb, le-leb, lt-leb, and_from, false≢true}
-use Rattle.faults.specs.declared.text.TextFault.{TextFault}
+use Rattle.std.proofs.lemmas.Bool.Decides.{nat_tests}
+use Rattle.std.proofs.lemmas.Bool.{cond-true, cond-false, cases_Bool, lt-ltb, le-leb, and_from, false≢true}
 use Rattle.text.specs.declared.classes.Class.TheVariants.{Digit, Newline}
 use Rattle.text.specs.Classes.{class_of, is}
 use Rattle.text.specs.Numbers.{number_at}
 use Rattle.text.specs.Runs.{next}
 use Rattle.text.proofs.Bytes.{newline_byte, digit_class}
-use Rattle.aiger.specs.Lines.{up}
-use Rattle.aiger.specs.Symbols.{max_name, nameable, slots, moved, placed, marked, named, step_by, step_of, free, is_over, refused_at, symbols_at}
+use Rattle.aiger.specs.Symbols.{max_name, nameable, slots, moved, placed, named, step_by, step_of, free, is_over, refused_at, symbols_at}
 use Rattle.aiger.specs.Grammar.{Numeral, Symbol, letter_byte, InRange, NameBytes, SymbolLines, Ending}
 use Rattle.aiger.specs.declared.states.Letter.{Letter}
 use Rattle.aiger.specs.declared.states.Letter.TheVariants.{Input, Output}
 use Rattle.aiger.specs.declared.states.State.{State}
 use Rattle.aiger.specs.declared.states.State.TheVariants.{Start, Position, Gap, Name, Comment, Done}
 use Rattle.aiger.specs.declared.states.SymbolFault.{SymbolFault}
-use Rattle.aiger.specs.declared.states.SymbolFault.TheVariants.{Text}
 use Rattle.aiger.specs.declared.symbols.SymbolMachine.{SymbolMachine}
 use Rattle.aiger.proofs.NumberTexts.{number_read, first_of, one_on}
 use Rattle.text.proofs.Runs.{past_end}
@@ -52,19 +50,16 @@ not_nil bs ds rest p x h e =
 
 -- a name's byte is no newline
 name_byte : (b : ℕ) → nameable (class_of b) ≡ true → is Newline (class_of b) ≡ false
-name_byte b nb =
-    ⊎_elim (λ t. absurd (false≢true (sym (ap (λ (b : ℕ). nameable (class_of b)) (newline_byte b t)) ∙ nb))) (λ f. f) (cases_Bool (is Newline (class_of b)))
+name_byte b nb = ⊎_elim (λ t. let n = newline_byte b t in absurd (false≢true (sym (ap (λ (b : ℕ). nameable (class_of b)) n) ∙ nb))) (λ f. f) (cases_Bool (is Newline (class_of b)))
 
 named_step : (bs : List ℕ) (m : SymbolMachine) (l : Letter) (p k b : ℕ) → nameable (class_of b) ≡ true → k < max_name → step_by bs m (Name l p k) (class_of b) b ≡ Ok (moved m (Name l p (k + 1)))
-named_step bs m l p k b nb h = cond-false _ _ _ (name_byte b nb) ∙ cond-true _ _ _ nb ∙ cond-false _ _ _ (lt-leb max_name k h)
+named_step bs m l p k b nb h = let n = name_byte b nb in grind (arith, nat_tests, n, nb)
 
 line_step : (m : SymbolMachine) (l : Letter) (p k : ℕ) → 1 ≤ k → InRange m.inputs l p → get_or m.seen (place l p) true ≡ false → named m l p k ≡ Ok (ended m (place l p))
-line_step m l p k some w new =
-    cond-false (eqb k 0) _ _ (ne_eqb k 0 (λ z. omega arith)) ∙ ap (λ (o : Option ℕ). marked m (free m.seen o)) (slot_within m.inputs l p w) ∙ ap (marked m) (cond-false (get_or m.seen (place l p) true) None (Some (place l p)) new)
+line_step m l p k some w new = let s = slot_within m.inputs l p w in grind (arith, nat_tests, s)
 
 place_step : (bs : List ℕ) (m : SymbolMachine) (l : Letter) (v q : ℕ) → number_at bs m.at ≡ Ok (v, q) → placed bs m l ≡ Ok (mk (Gap l v) q m.inputs m.seen)
-place_step bs m l v q e =
-    ap (λ (r : Result (ℕ × ℕ) TextFault). up Text r (λ v. Ok (record { state = Gap l v.0; at = v.1; inputs = m.inputs; seen = m.seen }))) e
+place_step bs m l v q e = grind (arith, e)
 
 -- a numeral begins with a digit
 numeral_first : (v : ℕ) (ds rest : List ℕ) → Numeral v ds → (d : ℕ) × (more : List ℕ) × (ds ++ rest ≡ d ∷ more) × (is Digit (class_of d) ≡ true)
