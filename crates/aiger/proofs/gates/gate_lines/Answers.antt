@@ -24,6 +24,13 @@ module _ (bs : List ℕ) (i k n p : ℕ) (t : List ℕ) (h : k < n) where
   unfolding after
   judge g r e j = ap (λ (r : Result (Unit {0}) CircuitFault). keep (λ e. e) t r (λ u. gates_at bs i (k + 1) (n - (k + 1)) g.1 (wrote t k g.0))) j ∙ line (Ok g) e
 
+pub returns-in_err-gate : goal.returns-in_err-gate
+returns-in_err-gate c =
+    let bs = c.args.file.bytes.now in
+    let q = err_from_is_err_and c.from_residual.result c.from_residual.ensures.1 in
+    ap (λ (r : Result ℕ CircuitFault). (c.loop-k.table, r)) (q.1 ∙ ap Err q.2)
+    ∙ line bs c.args.counts.inputs c.loop-k.k c.args.counts.gates c.loop-k.at c.loop-k.table c.loop-k-test.true _ (c.in_err-gate.ensures ∙ ap (located_in bs) c.gate_line.ensures) ∙ c.loop-k.invariant
+
 pub returns-in_err-judge : goal.returns-in_err-judge
 returns-in_err-judge c =
     let bs = c.args.file.bytes.now in
