@@ -1,4 +1,5 @@
-// Where the symbol machine stands, and where it marks a symbol as seen: a slot for each input and one for the output.
+// Where the symbol machine stands, what it refuses, and where it marks a symbol as seen: a slot for each input and one for
+// the output.
 ghost use Rattle.std.specs.Prelude.{◌≡◌};
 ghost use Rattle.aiger.specs.Symbols.{slot_of};
 ghost use Rattle.aiger.specs.declared.states.SymbolFault.TheVariants.{Text};
