@@ -27,7 +27,7 @@ impl Position {
         }
     }
 
-    // The scope fixes this form: each position beside its character.
+    // A rule of the project: each position stands beside its character.
     pub fn character(self) -> char
         ensures { result ≡ character_of self }
     {

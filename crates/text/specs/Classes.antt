@@ -8,6 +8,7 @@ use Rattle.std.specs.Prelude.{ℕ, Bool, cond, ◌&&◌, ◌==◌, nat_le}
 use Rattle.text.specs.declared.classes.Class.{Class}
 use Rattle.text.specs.declared.classes.Class.TheVariants.{Digit, Blank, Newline, Letter, Mark, Other}
 
+-- numbers, no plainer without: by them one test of two classes is computed at each entry of the table
 abbrev pub class_number : Class → ℕ
 class_number Digit = 0
 class_number Blank = 1
