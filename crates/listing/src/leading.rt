@@ -16,21 +16,21 @@ pub fn smallest_row<D: Decider>(decider: &mut D, barred: &[Entry]) -> Option<Row
     if n > MAX_INPUTS {
         return None;
     }
-    find_lead(decider, n, barred)
+    find_lead(decider, barred)
 }
 
 // Any such row first. Then, from input 1 on, one with a 0 in place of each 1, if there is one: a 0 needs no question.
-pub(crate) fn find_lead<D: Decider>(decider: &mut D, n: u32, barred: &[Entry]) -> Option<Row>
-    requires limit { n ≤ max_inputs }
-    requires same { D.Decider.arity decider.old ≡ n }
-    ensures lead { result ≡ lead n (without (D.Decider.rows decider.old) (held barred.now)) }
+pub(crate) fn find_lead<D: Decider>(decider: &mut D, barred: &[Entry]) -> Option<Row>
+    requires { D.Decider.arity decider.old ≤ max_inputs }
+    ensures lead { result ≡ lead (D.Decider.arity decider.old) (without (D.Decider.rows decider.old) (held barred.now)) }
     ensures kept { Kept D.Decider.arity D.Decider.rows decider.old decider.new }
 {
-    let mut best = probe(decider, n, n, 0, barred)?;
+    let n = decider.inputs();
+    let mut best = probe(decider, n, 0, barred)?;
     for k in (0..n).rev() {
         let high = best >> k;
         if high % 2 == 1 {
-            if let Some(row) = probe(decider, n, k, high - 1, barred) {
+            if let Some(row) = probe(decider, k, high - 1, barred) {
                 best = row;
             }
         }
@@ -39,15 +39,14 @@ pub(crate) fn find_lead<D: Decider>(decider: &mut D, n: u32, barred: &[Entry]) -
 }
 
 // A row of the set that no barred entry holds, with `high` as its bits from place k up.
-fn probe<D: Decider>(decider: &mut D, n: u32, k: u32, high: u32, barred: &[Entry]) -> Option<Row>
-    requires limit { n ≤ max_inputs }
-    requires place { k ≤ n }
-    requires fits { high * 2 ^ k < 2 ^ n }
-    requires same { D.Decider.arity decider.old ≡ n }
-    ensures answer { Answer n (D.Decider.rows decider.old) (2 ^ n - 2 ^ k) (high * 2 ^ k) true barred.now result }
+fn probe<D: Decider>(decider: &mut D, k: u32, high: u32, barred: &[Entry]) -> Option<Row>
+    requires limit { D.Decider.arity decider.old ≤ max_inputs }
+    requires place { k ≤ D.Decider.arity decider.old }
+    requires fits { high * 2 ^ k < 2 ^ D.Decider.arity decider.old }
+    ensures answer { Answer (D.Decider.arity decider.old) (D.Decider.rows decider.old) (2 ^ D.Decider.arity decider.old - 2 ^ k) (high * 2 ^ k) true barred.now result }
     ensures kept { Kept D.Decider.arity D.Decider.rows decider.old decider.new }
 {
-    let care = (1u32 << n) - (1u32 << k);
+    let care = (1u32 << decider.inputs()) - (1u32 << k);
     decider.ask(Question {
         cube: Cube::low(care, high << k),
         wanted: true,

@@ -22,11 +22,11 @@ impl Running {
         if register.len() < held {
             return Err(self.refused(ListingFault::RegisterShort(held)));
         }
-        let n = self.draft.arity.inputs;
-        if decider.inputs() != n {
+        let arity = self.draft.arity;
+        if decider.inputs() != arity.inputs {
             return Err(self.refused(ListingFault::DeciderInputs(held)));
         }
-        let Some(row) = find_lead(decider, n, &register[0..held]) else {
+        let Some(row) = find_lead(decider, &register[0..held]) else {
             return Ok(Step::Ended(Finished { listing: self }));
         };
         if !has_room(held, register) {
@@ -36,7 +36,7 @@ impl Running {
             Mode::Separate => held,
             Mode::Shared => self.draft.waivers as usize,
         };
-        let cube = widen(decider, n, row, &register[0..shut]);
+        let cube = widen(decider, arity, row, &register[0..shut]);
         register[held] = Entry::listed(cube);
         Ok(Step::Listed(self.longer()))
     }

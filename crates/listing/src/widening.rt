@@ -1,23 +1,23 @@
 // The widest cube around a row: inputs 1 to n in turn, opened wherever the cube stays good.
-ghost use Rattle.std.specs.Prelude.{◌≡◌, ◌^◌, ◌<◌, ◌≤◌, bit_and};
+ghost use Rattle.std.specs.Prelude.{◌≡◌, bit_and};
 ghost use Rattle.cubes.specs.Cubes.{held};
 ghost use Rattle.cubes.specs.Deciders.{Kept};
-ghost use Rattle.listing.specs.Limits.{max_inputs};
 ghost use Rattle.listing.specs.Widest.{without, good, widest};
 
+use crate::arity::Arity;
 use cubes::{Cube, Decider, Entry, Question, Row, touches};
 
-pub(crate) fn widen<D: Decider>(decider: &mut D, n: u32, row: Row, shut: &[Entry]) -> Cube
-    requires limit { n ≤ max_inputs }
-    requires same { D.Decider.arity decider.old ≡ n }
-    ensures care { result.care ≡ widest n (without (D.Decider.rows decider.old) (held shut.now)) row }
+pub(crate) fn widen<D: Decider>(decider: &mut D, arity: Arity, row: Row, shut: &[Entry]) -> Cube
+    requires { D.Decider.arity decider.old ≡ arity.inputs }
+    ensures care { result.care ≡ widest arity.inputs (without (D.Decider.rows decider.old) (held shut.now)) row }
     ensures value { result.value ≡ bit_and row result.care }
     ensures kept { Kept D.Decider.arity D.Decider.rows decider.old decider.new }
 {
+    let n = arity.inputs;
     let mut care = (1u32 << n) - 1;
     for k in (0..n).rev() {
         let wider = care - (1u32 << k);
-        if is_good(decider, n, Cube::low(wider, row & wider), shut) {
+        if is_good(decider, arity, Cube::low(wider, row & wider), shut) {
             care = wider;
         }
     }
@@ -25,13 +25,12 @@ pub(crate) fn widen<D: Decider>(decider: &mut D, n: u32, row: Row, shut: &[Entry
 }
 
 // Whether the cube holds only rows of the set that no shut entry holds. Touching one needs no question.
-fn is_good<D: Decider>(decider: &mut D, n: u32, cube: Cube, shut: &[Entry]) -> bool
-    requires limit { n ≤ max_inputs }
-    requires same { D.Decider.arity decider.old ≡ n }
-    ensures good { result ≡ good n (without (D.Decider.rows decider.old) (held shut.now)) cube.care cube.value }
+fn is_good<D: Decider>(decider: &mut D, arity: Arity, cube: Cube, shut: &[Entry]) -> bool
+    requires { D.Decider.arity decider.old ≡ arity.inputs }
+    ensures good { result ≡ good arity.inputs (without (D.Decider.rows decider.old) (held shut.now)) cube.care cube.value }
     ensures kept { Kept D.Decider.arity D.Decider.rows decider.old decider.new }
 {
-    if touches(cube, shut, n).is_some() {
+    if touches(cube, shut, arity.inputs).is_some() {
         return false;
     }
     let spoilt = decider.ask(Question {

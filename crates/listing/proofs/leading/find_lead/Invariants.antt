@@ -7,5 +7,5 @@ use Rattle.listing.proofs.leading.find_lead.Given as goal
 abbrev pub invariant-loop-k : goal.invariant-loop-k
 invariant-loop-k g l =
     Kept g.D.Decider.arity g.D.Decider.rows l.initial.decider l.decider
-    × Free l.n (g.D.Decider.rows l.initial.decider) l.barred l.best
-    × ((row : ℕ) → Free l.n (g.D.Decider.rows l.initial.decider) l.barred row → l.best / 2 ^ l.k ≤ row / 2 ^ l.k)
+    × Free (g.D.Decider.arity l.initial.decider) (g.D.Decider.rows l.initial.decider) l.barred l.best
+    × ((row : ℕ) → Free (g.D.Decider.arity l.initial.decider) (g.D.Decider.rows l.initial.decider) l.barred row → l.best / 2 ^ l.k ≤ row / 2 ^ l.k)

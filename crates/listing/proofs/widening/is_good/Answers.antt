@@ -14,6 +14,6 @@ returns-then-is_some g c =
 pub returns : goal.returns
 returns g c =
     record {
-      good = sym (ap not c.is_none.ensures ∙ not-not c.is_none.result) ∙ good_told _ _ _ _ _ c.touches.result _ c.touches.ensures c.if-is_some.ensures (rw c.requires.same at c.ask-spoilt.ensures.answer);
+      good = sym (ap not c.is_none.ensures ∙ not-not c.is_none.result) ∙ good_told _ _ _ _ _ c.touches.result _ c.touches.ensures c.if-is_some.ensures (rw c.requires at c.ask-spoilt.ensures.answer);
       kept = c.ask-spoilt.ensures.kept;
     }

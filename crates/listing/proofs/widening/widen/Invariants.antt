@@ -10,5 +10,5 @@ invariant-loop-k g l =
     Kept g.D.Decider.arity g.D.Decider.rows l.initial.decider l.decider
     × (l.care < 2 ^ 30)
     × ((decided : ℕ) × (l.care ≡ rest l.k decided)
-    × (widened (good_around l.n (without (g.D.Decider.rows l.initial.decider) (held l.shut)) l.row) l.k decided
-    ≡ widest l.n (without (g.D.Decider.rows l.initial.decider) (held l.shut)) l.row))
+    × (widened (good_around l.arity.inputs (without (g.D.Decider.rows l.initial.decider) (held l.shut)) l.row) l.k decided
+    ≡ widest l.arity.inputs (without (g.D.Decider.rows l.initial.decider) (held l.shut)) l.row))

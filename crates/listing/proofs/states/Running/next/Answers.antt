@@ -9,7 +9,7 @@ pub returns-in_default : goal.returns-in_default
 returns-in_default g c =
     record {
       next = next_ends c.args.self _ c.args.register.now _ c.held-held.result _ None c.held-held.ensures c.if-register-held.false
-          (sym c.inputs.ensures ∙ c.if-inputs-n.false) (sub-zero c.held-held.result) c.in_default.ensures.lead refl;
+          (sym c.inputs.ensures ∙ c.if-inputs-arity.false) (sub-zero c.held-held.result) (rw (sym c.inputs.ensures ∙ c.if-inputs-arity.false) at c.in_default.ensures.lead) refl;
       kept = c.find_lead.ensures.kept;
     }
 
@@ -17,7 +17,7 @@ pub returns-then-not-has_room : goal.returns-then-not-has_room
 returns-then-not-has_room g c =
     record {
       next = next_full c.args.self _ c.args.register.now _ c.held-held.result _ (Some c.in-Some.row) c.held-held.ensures c.if-register-held.false
-          (sym c.inputs.ensures ∙ c.if-inputs-n.false) (sub-zero c.held-held.result) c.in-Some.ensures.lead
+          (sym c.inputs.ensures ∙ c.if-inputs-arity.false) (sub-zero c.held-held.result) (rw (sym c.inputs.ensures ∙ c.if-inputs-arity.false) at c.in-Some.ensures.lead)
           c.in-Some.row refl c.refused-then-not-has_room.result (sym c.if-not-has_room.ensures) c.refused-then-not-has_room.ensures;
       kept = c.find_lead.ensures.kept;
     }
@@ -26,7 +26,7 @@ pub returns : goal.returns
 returns g c =
     record {
       next = next_lists c.args.self _ c.args.register.now _ c.held-held.result _ (Some c.in-Some.row) c.held-held.ensures c.if-register-held.false
-          (sym c.inputs.ensures ∙ c.if-inputs-n.false) (sub-zero c.held-held.result) c.in-Some.ensures.lead
+          (sym c.inputs.ensures ∙ c.if-inputs-arity.false) (sub-zero c.held-held.result) (rw (sym c.inputs.ensures ∙ c.if-inputs-arity.false) at c.in-Some.ensures.lead)
           c.in-Some.row refl _ _ _ _ c.longer.result c.listed.result (sym c.if-not-has_room.ensures) c.find_lead.ensures.kept.rows
           (sub-zero c.match-self.shut
           ∙ elim c.match-self.branch [ in-Separate w ↦ rw w.in-Separate.is (w.shut-is ∙ c.held-held.ensures) | in-Shared w ↦ rw w.in-Shared.is w.shut-is ])
