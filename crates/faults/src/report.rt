@@ -12,6 +12,7 @@ pub enum Layer {
     Table,
 }
 
+// Each fault gives its own by a method `report` and not by a `From`: the one of `Fault` promises more than a value.
 #[derive(Clone, Copy)]
 pub struct Report {
     pub number: u32,
