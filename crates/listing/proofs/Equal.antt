@@ -1,5 +1,5 @@
 -- Two finished chains are equal exactly when the same solutions were left unwaived.
-use Rattle.std.proofs.Common.{◌≡◌, ℕ, ◌^◌, ◌<◌, Bool, true, ◌↔◌, List, None, sym, subst, subst₂}
+use Rattle.std.proofs.Common.{◌≡◌, ℕ, ◌^◌, ◌<◌, Bool, true, ◌↔◌, List, None, sym, subst}
 use Rattle.cubes.specs.declared.cube.Cube.{Cube}
 use Rattle.listing.specs.declared.mode.Mode.{Mode}
 use Rattle.listing.specs.Widest.{without, lead}
@@ -18,18 +18,16 @@ module _ (n : ℕ) (mode : Mode) where
   half : (S S' : ℕ → Bool) (ws ws' cs cs' : List Cube) → Whole n mode S ws cs → Whole n mode S' ws' cs' → cs ≡ cs'
       → (r : ℕ) → r < 2 ^ n → unwaived S ws r ≡ true → unwaived S' ws' r ≡ true
   half S S' ws ws' cs cs' w w' e r l u =
-      let t = chain_some n S ws cs w.ends r l u in
-      chain_only n mode (unwaived S' ws') cs' w'.chain t.0 r (subst (λ (xs : List Cube). Holds n xs t.0 r) e t.1)
+      let t = chain_some n S ws cs w.ends r l u in chain_only _ _ _ _ w'.chain t.0 r (subst (λ (xs : List Cube). Holds n xs t.0 r) e t.1)
 
   both : (S S' : ℕ → Bool) (ws ws' cs cs' : List Cube) → Whole n mode S ws cs → Whole n mode S' ws' cs'
       → (cs ≡ cs') ↔ ((r : ℕ) → r < 2 ^ n → unwaived S ws r ≡ unwaived S' ws' r)
   both S S' ws ws' cs cs' w w' = (
-    (λ e r l. bool_same (unwaived S ws r) (unwaived S' ws' r) (half S S' ws ws' cs cs' w w' e r l) (half S' S ws' ws cs' cs w' w (sym e) r l)),
-    λ h. same_chains n mode (unwaived S ws) (unwaived S' ws') h cs cs' w.chain w'.chain w.ends w'.ends,
+    (λ e r l. bool_same _ _ (half _ _ _ _ _ _ w w' e r l) (half _ _ _ _ _ _ w' w (sym e) r l)),
+    λ h. same_chains _ _ _ _ h cs cs' w.chain w'.chain w.ends w'.ends,
   )
 
 -- modes and numbers of inputs that are equal, and not merely the same
 pub equal_lists_lem : (n n' : ℕ) (mode mode' : Mode) (S S' : ℕ → Bool) (ws ws' cs cs' : List Cube) → mode ≡ mode' → n ≡ n'
     → Whole n mode S ws cs → Whole n' mode' S' ws' cs' → (cs ≡ cs') ↔ ((r : ℕ) → r < 2 ^ n → unwaived S ws r ≡ unwaived S' ws' r)
-equal_lists_lem n n' mode mode' S S' ws ws' cs cs' m e w =
-    subst₂ (λ (x : ℕ) (y : Mode). Whole x y S' ws' cs' → (cs ≡ cs') ↔ ((r : ℕ) → r < 2 ^ n → unwaived S ws r ≡ unwaived S' ws' r)) e m (both n mode S S' ws ws' cs cs' w)
+equal_lists_lem n n' mode mode' S S' ws ws' cs cs' m e w w' = both n mode S S' ws ws' cs cs' w (rw (e, m) w')

@@ -1,8 +1,8 @@
 -- What every story keeps: the register holds its waivers and its list, and the list is a chain; one more of either keeps it.
-use Rattle.std.proofs.Common.{◌≡◌, ℕ, ◌+◌, ◌^◌, ◌<◌, ◌≤◌, Bool, List, [], ◌∷◌, ◌++◌, map, length, take, drop, set, Some, None, sym, refl, ap, ◌∙◌, ap₂, not-suc-le-zero, add-one, arith, length-drop, length-set, take-suc-set, pow_mono}
+use Rattle.std.proofs.Common.{◌≡◌, ℕ, ◌+◌, ◌^◌, ◌<◌, ◌≤◌, Bool, List, [], ◌∷◌, ◌++◌, map, length, take, drop, set, Some, None, refl, ◌∙◌, arith, length-drop, length-set, pow_mono}
 use lib.Bits.{bit_and, and_le_r}
 use lib.Seq.{take-set-le, drop-set-add}
-use Rattle.std.proofs.lemmas.List.{map_push}
+use Rattle.std.proofs.lemmas.List.{map_push, take_more_set}
 use Rattle.cubes.specs.declared.cube.Cube.{Cube}
 use Rattle.cubes.specs.declared.entry.Entry.{Entry}
 use Rattle.listing.specs.declared.states.Draft.{Draft}
@@ -13,7 +13,7 @@ use Rattle.listing.specs.Theorem.{in_some, unwaived}
 use Rattle.listing.proofs.Goodness.{widest_fits}
 use Rattle.listing.proofs.Chain.{Chain}
 use Rattle.listing.proofs.Same.{chain_push}
-use Rattle.listing.proofs.Words.{word_low, listed_again}
+use Rattle.listing.proofs.Words.{word_low}
 
 -- a draft with its waivers and c cubes
 pub record Kept (S : ℕ → Bool) (d : Draft) (c : ℕ) (reg : List Entry) (ws cs : List Cube) : Type 0 where
@@ -31,9 +31,9 @@ KeptBy S (draft d) reg ws cs = Kept S d 0 reg ws cs
 KeptBy S (running l) reg ws cs = Kept S l.draft l.cubes reg ws cs
 KeptBy S (finished f) reg ws cs = Kept S f.listing.draft f.listing.cubes reg ws cs × Ends S f.listing.draft ws cs
 
-no_cubes : (cs : List Cube) → [] ≡ map listed_of cs → (i : ℕ) → i < length cs → ⊥
-no_cubes [] e i l = not-suc-le-zero l
-no_cubes (q ∷ qs) e i l = let z : ◌≡◌ {A = ℕ} 0 1 = cc in omega arith
+no_cubes : (cs : List Cube) → [] ≡ map listed_of cs → cs ≡ []
+no_cubes [] e = refl
+no_cubes (q ∷ qs) e = absurd (cc)
 
 module _ (S : ℕ → Bool) (d : Draft) (reg : List Entry) (ws cs : List Cube) where
   -- a waiver more
@@ -42,13 +42,9 @@ module _ (S : ℕ → Bool) (d : Draft) (reg : List Entry) (ws cs : List Cube) w
   kept_waive v q h =
       record {
         room = simp length-set (omega arith);
-        waivers =
-            ap (λ (w : ℕ). take w (set reg d.waivers (waiver_of q))) (add-one d.waivers)
-            ∙ take-suc-set reg d.waivers (waiver_of q) h
-            ∙ ap (λ (xs : List Entry). xs ++ waiver_of q ∷ []) v.waivers
-            ∙ sym (map_push waiver_of ws q);
+        waivers = rw (take_more_set reg d.waivers (waiver_of q) h, v.waivers, map_push) refl;
         cubes = v.cubes;
-        chain = λ i l. absurd (no_cubes cs v.cubes i l);
+        chain = λ i l. absurd (omega (arith, rw (no_cubes cs v.cubes) at l));
       }
 
   -- a cube more: the widest around the lead
@@ -61,28 +57,27 @@ module _ (S : ℕ → Bool) (d : Draft) (reg : List Entry) (ws cs : List Cube) w
       let t : 2 ^ n ≤ 2 ^ 30 = pow_mono d.arity.limits.1 in
       let f = widest_fits n (allowed d.mode (unwaived S ws) (in_some cs)) row in
       let hc : care < 2 ^ 30 = omega arith in
-      let hv : bit_and row care < 2 ^ 30 = let k = and_le_r row care in omega arith in
+      let hv : bit_and row care < 2 ^ 30 = omega (arith, and_le_r row care) in
       let q : Cube = cube_of (entry_around row care) in
+      let lc = word_low 2 care hc in
+      let lv = word_low 3 (bit_and row care) hv in
       record {
         room = simp length-set (omega arith);
         waivers = take-set-le d.waivers reg (d.waivers + c) (entry_around row care) (omega arith) ∙ v.waivers;
         cubes =
-            ap (take (c + 1)) (drop-set-add d.waivers reg c (entry_around row care))
-            ∙ ap (λ (m : ℕ). take m (set (drop d.waivers reg) c (entry_around row care))) (add-one c)
-            ∙ take-suc-set (drop d.waivers reg) c (entry_around row care) (simp length-drop (omega arith))
-            ∙ ap₂ (λ (xs : List Entry) (x : Entry). xs ++ x ∷ []) v.cubes (sym (listed_again care (bit_and row care) hc hv))
-            ∙ sym (map_push listed_of cs q);
+            rw (drop-set-add d.waivers reg c, take_more_set (drop d.waivers reg) c (entry_around row care) (simp length-drop (omega arith)), v.cubes, map_push)
+            (rw (lc, lv) refl);
         chain =
             chain_push n d.mode (unwaived S ws) cs q v.chain
             (record {
               row = row;
               leads = e;
-              care = word_low 2 care hc ∙ w;
-              value = word_low 3 (bit_and row care) hv ∙ ap (bit_and row) (sym (word_low 2 care hc));
+              care = lc ∙ w;
+              value = rw lc lv;
             });
       }
 
   -- no cube
   pub kept_reopen : (c : ℕ) → Kept S d c reg ws cs → Kept S d 0 reg ws []
   kept_reopen c v =
-      let h = v.room in record { room = omega arith; waivers = v.waivers; cubes = refl; chain = λ i l. absurd (not-suc-le-zero l) }
+      let h = v.room in record { room = omega arith; waivers = v.waivers; cubes = refl; chain = λ i l. absurd (omega arith) }

@@ -1,6 +1,7 @@
 -- Every story keeps what `Kept` says, call by call.
-use Rattle.std.proofs.Common.{◌≡◌, ℕ, ◌+◌, ◌^◌, ◌<◌, ◌≤◌, Bool, false, not, ◌&&◌, eqb, ltb, List, [], ◌∷◌, ◌++◌, length, get_or, take, drop, set, Some, None, Ok, Err, Option, Result, sym, refl, ap, ◌∙◌, subst, ap₂, not-suc-le-zero, arith, take-append-drop, get_or-set_same}
-use Rattle.std.proofs.lemmas.Bool.{cond_both, ltb-true, ltb-false, eqb-true, and_parts, not-false}
+use Rattle.std.proofs.Common.{◌≡◌, ℕ, ◌^◌, ◌<◌, ◌≤◌, Bool, false, not, eqb, ltb, List, [], ◌∷◌, ◌++◌, length, get_or, take, drop, Some, None, Ok, Err, Option, Result, refl, subst, arith, length-take, take-append-drop, get_or-set_same}
+use Rattle.std.proofs.lemmas.Bool.{cond_both, ltb-false, eqb-true, not-false}
+use Rattle.std.proofs.lemmas.Bool.Decides.{nat_tests}
 use Rattle.faults.specs.declared.listing.ListingFault.{ListingFault}
 use Rattle.cubes.specs.declared.cube.Cube.{Cube}
 use Rattle.cubes.specs.declared.entry.Entry.{Entry}
@@ -13,22 +14,19 @@ use Rattle.listing.specs.declared.states.Step.{Step}
 use Rattle.listing.specs.declared.states.Step.TheVariants.{Listed, Ended}
 use Rattle.listing.specs.declared.states.Refusal.{Refusal}
 use Rattle.listing.specs.Widest.{without, lead, widest}
-use Rattle.listing.specs.Limits.{max_entries}
-use Rattle.listing.specs.Calls.{mode_of, arity_of, drafted, room, well_formed, waiver_of, one_waiver, waived, entries, waivers_in, cubes_in, allowed, entry_around, led, nexted}
+use Rattle.listing.specs.Calls.{mode_of, arity_of, drafted, room, well_formed, waiver_of, waived, entries, waivers_in, cubes_in, allowed, entry_around, led, nexted}
 use Rattle.listing.specs.Stories.{Listing, cube_of, Means, Story, opens, waives, waives_not, begins, lists, ends, nexts_not, reopens, reopens_finished}
 use Rattle.listing.specs.Theorem.{in_some, unwaived}
-use Rattle.listing.proofs.Least.{least_cong}
-use Rattle.listing.proofs.Goodness.{widest_cong}
-use Rattle.listing.proofs.Chain.{allowed_cong}
-use Rattle.listing.proofs.Words.{held_entries, written, front_le, front_waivers, front_cubes}
+use Rattle.listing.proofs.Chain.{lead_cong, care_cong}
+use Rattle.listing.proofs.Words.{held_entries, written, front_waivers, front_cubes}
 use Rattle.listing.proofs.Kept.{Kept, KeptBy, Ends, kept_waive, kept_list, kept_reopen}
 
 -- a call that alters no entry
 unaltered : {S : ℕ → Bool} {d : Draft} {c : ℕ} {ws cs : List Cube} (k : ℕ) (reg : List Entry) → Kept S d c reg ws cs → Kept S d c (take k reg ++ drop k reg) ws cs
-unaltered {S} {d} {c} {ws} {cs} k reg v = subst (λ (xs : List Entry). Kept S d c xs ws cs) (sym (take-append-drop k reg)) v
+unaltered k reg v = rw take-append-drop v
 
 room_free : (used : ℕ) (f : List Entry) → not (room used f) ≡ false → used < length f
-room_free used f e = ltb-true used (length f) (and_parts (ltb used (length f)) (ltb used max_entries) (not-false (room used f) e)).0
+room_free used f e = grind (arith, nat_tests)
 
 -- ---- waive
 
@@ -44,9 +42,7 @@ module _ (S : ℕ → Bool) (d : Draft) (reg : List Entry) (ws cs : List Cube) (
       (λ _. cond_both (not (well_formed d.arity.inputs q)) _ _ AfterWaive (λ _. unaltered k reg v)
       (λ _. cond_both (not (room d.waivers f)) _ _ AfterWaive (λ _. unaltered k reg v)
       (λ free. let p = room_free d.waivers f free in
-      let b = front_le k reg in
-      subst (λ (xs : List Entry). Kept S (one_waiver d) 0 xs (ws ++ q ∷ []) cs) (sym (written k d.waivers reg (waiver_of q) p))
-      (kept_waive S d reg ws cs v q (omega arith)))))
+      rw (written k d.waivers reg (waiver_of q) p) (kept_waive S d reg ws cs v q (omega (arith, length-take k reg))))))
 
 -- ---- next
 
@@ -65,36 +61,20 @@ module _ (S : ℕ → Bool) (l : Running) (reg : List Entry) (ws cs : List Cube)
     C = held (cubes_in l (take k reg))
 
     wanted_is : (r : ℕ) → r < 2 ^ l.draft.arity.inputs → U r ≡ unwaived S ws r
-    wanted_is r h =
-        ap₂ (λ (t u : Bool). t && not u) (same r h)
-        (ap (λ (es : List Entry). held es r) (front_waivers l.draft.waivers l.cubes k reg enough ∙ v.waivers) ∙ held_entries 1 ws r)
+    wanted_is r h = rw (front_waivers l.draft.waivers l.cubes k reg enough, v.waivers, held_entries 1 ws r, same r h) refl
 
     covered_is : (r : ℕ) → C r ≡ in_some cs r
-    covered_is r =
-        ap (λ (es : List Entry). held es r) (front_cubes l.draft.waivers l.cubes k reg enough ∙ v.cubes) ∙ held_entries 2 cs r
-
-    lead_is : lead l.draft.arity.inputs (without U C) ≡ lead l.draft.arity.inputs (without (unwaived S ws) (in_some cs))
-    lead_is = least_cong (without U C) (without (unwaived S ws) (in_some cs)) (2 ^ l.draft.arity.inputs) (λ r h. ap₂ (λ (t u : Bool). t && not u) (wanted_is r h) (covered_is r))
-
-    care_is : (row : ℕ) → widest l.draft.arity.inputs (allowed l.draft.mode U C) row
-        ≡ widest l.draft.arity.inputs (allowed l.draft.mode (unwaived S ws) (in_some cs)) row
-    care_is row =
-        widest_cong l.draft.arity.inputs (allowed l.draft.mode U C) (allowed l.draft.mode (unwaived S ws) (in_some cs)) row
-        (λ r h. allowed_cong l.draft.mode U (unwaived S ws) C (in_some cs) r (wanted_is r h) (covered_is r))
+    covered_is r = rw (front_cubes l.draft.waivers l.cubes k reg enough, v.cubes, held_entries 2 cs r) refl
 
     after_lead : (o : Option ℕ) → lead l.draft.arity.inputs (without (unwaived S ws) (in_some cs)) ≡ o → AfterNext (led l (take k reg) U C o)
     after_lead None e = (unaltered k reg v, e)
     after_lead (Some row) e =
         let f : List Entry = take k reg in
-        let care : ℕ = widest l.draft.arity.inputs (allowed l.draft.mode U C) row in
+        let entry : Entry = entry_around row (widest l.draft.arity.inputs (allowed l.draft.mode U C) row) in
         cond_both (not (room (entries l) f)) _ _ AfterNext (λ _. unaltered k reg v)
         (λ free. let p = room_free (entries l) f free in
-        let b = front_le k reg in
-        subst (λ (xs : List Entry). Kept S l.draft (l.cubes + 1) xs ws (cs ++ cube_of (get_or (set f (entries l) (entry_around row care)) (entries l) blank) ∷ []))
-        (sym (written k (entries l) reg (entry_around row care) p))
-        (subst (λ (x : Entry). Kept S l.draft (l.cubes + 1) (set reg (entries l) (entry_around row care)) ws (cs ++ cube_of x ∷ []))
-        (sym (get_or-set_same f (entries l) (entry_around row care) blank p))
-        (kept_list S l.draft reg ws cs l.cubes v row care (omega arith) e (care_is row))))
+        rw (written k (entries l) reg entry p, get_or-set_same f (entries l) entry blank p)
+        (kept_list S l.draft reg ws cs l.cubes v row _ (omega (arith, length-take k reg)) e (care_cong _ _ _ _ _ wanted_is covered_is l.draft.mode row)))
 
   after_next : (N : ℕ) (D : ℕ → Bool) → Kept S l.draft l.cubes reg ws cs → Means N S D → AfterNext (nexted l N D (take k reg))
   after_next N D v means =
@@ -103,9 +83,8 @@ module _ (S : ℕ → Bool) (l : Running) (reg : List Entry) (ws cs : List Cube)
       cond_both (ltb (length f) (entries l)) _ _ AfterNext (λ _. unaltered k reg v)
       (λ long. cond_both (not (eqb N n)) _ _ AfterNext (λ _. unaltered k reg v)
       (λ same. let enough = ltb-false (length f) (entries l) long in
-      let rows : Means n S D = subst (λ (m : ℕ). Means m S D) (eqb-true N n (not-false (eqb N n) same)) means in
-      subst (λ (o : Option ℕ). AfterNext (led l f (without D (held (waivers_in l f))) (held (cubes_in l f)) o)) (sym (lead_is v D rows enough))
-      (after_lead v D rows enough (lead n (without (unwaived S ws) (in_some cs))) refl)))
+      let rows : Means n S D = rw (eqb-true N n (not-false (eqb N n) same)) at means in
+      rw (lead_cong n _ _ _ _ (wanted_is v D rows enough) (covered_is v D rows enough)) (after_lead v D rows enough (lead n (without (unwaived S ws) (in_some cs))) refl)))
 
 -- ---- open
 
@@ -116,17 +95,17 @@ AfterOpen S reg (Err fault) = Unit {0}
 after_open : (S : ℕ → Bool) (reg : List Entry) (mode : Option Mode) (arity : Option Arity) → AfterOpen S reg (drafted mode arity)
 after_open S reg None arity = tt
 after_open S reg (Some mode) None = tt
-after_open S reg (Some mode) (Some arity) = record { room = omega arith; waivers = refl; cubes = refl; chain = λ i h. absurd (not-suc-le-zero h) }
+after_open S reg (Some mode) (Some arity) = record { room = omega arith; waivers = refl; cubes = refl; chain = λ i h. absurd (omega arith) }
 
 -- ---- stories
 
 pub story_kept : (N : ℕ) (S : ℕ → Bool) {l : Listing} {reg : List Entry} {ws cs : List Cube} → Story N S l reg ws cs → KeptBy S l reg ws cs
 story_kept N S (opens mode n d reg e) = subst (AfterOpen S reg) e (after_open S reg (mode_of mode) (arity_of n))
-story_kept N S (waives {d = d} {reg = reg} {ws = ws} {cs = cs} s k q e) = subst (AfterWaive S d reg ws cs k q) e (after_waive S d reg ws cs k q (story_kept N S s))
-story_kept N S (waives_not {d = d} {reg = reg} {ws = ws} {cs = cs} s k q fault e) = subst (AfterWaive S d reg ws cs k q) e (after_waive S d reg ws cs k q (story_kept N S s))
+story_kept N S (waives {d = d} s k q e) = subst (AfterWaive S d _ _ _ k q) e (after_waive S d _ _ _ k q (story_kept N S s))
+story_kept N S (waives_not {d = d} s k q fault e) = subst (AfterWaive S d _ _ _ k q) e (after_waive S d _ _ _ k q (story_kept N S s))
 story_kept N S (begins s) = story_kept N S s
-story_kept N S (lists {l = l} {reg = reg} {ws = ws} {cs = cs} s k D same e) = subst (AfterNext S l reg ws cs k) e (after_next S l reg ws cs k N D (story_kept N S s) same)
-story_kept N S (ends {l = l} {reg = reg} {ws = ws} {cs = cs} s k D same e) = subst (AfterNext S l reg ws cs k) e (after_next S l reg ws cs k N D (story_kept N S s) same)
-story_kept N S (nexts_not {l = l} {reg = reg} {ws = ws} {cs = cs} s k D same refusal e) = subst (AfterNext S l reg ws cs k) e (after_next S l reg ws cs k N D (story_kept N S s) same)
-story_kept N S (reopens {l = l} {reg = reg} {ws = ws} {cs = cs} s) = kept_reopen S l.draft reg ws cs l.cubes (story_kept N S s)
-story_kept N S (reopens_finished {f = f} {reg = reg} {ws = ws} {cs = cs} s) = kept_reopen S f.listing.draft reg ws cs f.listing.cubes (story_kept N S s).0
+story_kept N S (lists {l = l} s k D same e) = subst (AfterNext S l _ _ _ k) e (after_next S l _ _ _ k N D (story_kept N S s) same)
+story_kept N S (ends {l = l} s k D same e) = subst (AfterNext S l _ _ _ k) e (after_next S l _ _ _ k N D (story_kept N S s) same)
+story_kept N S (nexts_not {l = l} s k D same refusal e) = subst (AfterNext S l _ _ _ k) e (after_next S l _ _ _ k N D (story_kept N S s) same)
+story_kept N S (reopens s) = kept_reopen S _ _ _ _ _ (story_kept N S s)
+story_kept N S (reopens_finished s) = kept_reopen S _ _ _ _ _ (story_kept N S s).0

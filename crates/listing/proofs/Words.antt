@@ -1,10 +1,10 @@
 -- Cubes as entries of the register, and entries written in a front part of it.
-use Rattle.std.proofs.Common.{◌≡◌, ℕ, ◌+◌, ◌%◌, ◌^◌, ◌<◌, ◌≤◌, ◌||◌, List, [], ◌∷◌, ◌++◌, map, length, take, drop, set, sym, refl, ap, ◌∙◌, ap₂, arith, take-append-drop, length-take, take-take}
+use Rattle.std.proofs.Common.{◌≡◌, ℕ, ◌+◌, ◌%◌, ◌^◌, ◌<◌, ◌≤◌, List, [], ◌∷◌, ◌++◌, map, length, take, drop, set, refl, arith, take-append-drop, length-take, take-take}
 use lib.Seq.{set-append_left}
 use Rattle.std.proofs.lemmas.List.{drop-take}
 use Rattle.cubes.specs.declared.cube.Cube.{Cube}
 use Rattle.cubes.specs.declared.entry.Entry.{Entry}
-use Rattle.cubes.specs.Cubes.{within, word, held, listed_entry}
+use Rattle.cubes.specs.Cubes.{word, held, listed_entry}
 use Rattle.listing.specs.Stories.{cube_of}
 use Rattle.listing.specs.Calls.{listed_of}
 use Rattle.listing.specs.Theorem.{in_some}
@@ -20,23 +20,19 @@ entry_of kind q = record { care = word kind q.care; value = word 3 q.value }
 pub held_entries : (kind : ℕ) (qs : List Cube) (r : ℕ) → held (map (entry_of kind) qs) r ≡ in_some qs r
 held_entries kind [] r = refl
 held_entries kind (q ∷ qs) r =
-    ap₂ ◌||◌ (ap₂ (λ (c v : ℕ). within c v r) (word_low kind q.care q.numbers.0) (word_low 3 q.value q.numbers.1)) (held_entries kind qs r)
+    rw (word_low kind q.care q.numbers.0, word_low 3 q.value q.numbers.1, held_entries kind qs r) refl
 
 pub listed_again : (care value : ℕ) → care < 2 ^ 30 → value < 2 ^ 30 → listed_of (cube_of (listed_entry care value)) ≡ listed_entry care value
-listed_again care value h k = ap₂ listed_entry (word_low 2 care h) (word_low 3 value k)
+listed_again care value h k = rw (word_low 2 care h, word_low 3 value k) refl
 
 -- ---- front parts
 
 pub written : (k i : ℕ) (reg : List Entry) (e : Entry) → i < length (take k reg) → set (take k reg) i e ++ drop k reg ≡ set reg i e
-written k i reg e h = sym (set-append_left (take k reg) (drop k reg) i e h) ∙ ap (λ (xs : List Entry). set xs i e) (take-append-drop k reg)
-
-pub front_le : (k : ℕ) (reg : List Entry) → (length (take k reg) ≤ length reg) × (length (take k reg) ≤ k)
-front_le k reg = let e = length-take k reg in (omega arith, omega arith)
+written k i reg e h = rw (← set-append_left (take k reg) (drop k reg) i e h, take-append-drop) refl
 
 pub front_waivers : (w c k : ℕ) (reg : List Entry) → w + c ≤ length (take k reg) → take w (take k reg) ≡ take w reg
-front_waivers w c k reg h = let b = front_le k reg in take-take w k reg (omega arith)
+front_waivers w c k reg h = take-take w k reg (omega (arith, length-take k reg))
 
 pub front_cubes : (w c k : ℕ) (reg : List Entry) → w + c ≤ length (take k reg) → take c (drop w (take k reg)) ≡ take c (drop w reg)
 front_cubes w c k reg h =
-    let b = front_le k reg in
-    sym (drop-take w c (take k reg)) ∙ ap (drop w) (take-take (w + c) k reg (omega arith)) ∙ drop-take w c reg
+    let e = take-take (w + c) k reg (omega (arith, length-take k reg)) in rw (← drop-take, e, drop-take) refl

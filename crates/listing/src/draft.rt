@@ -12,6 +12,7 @@ use faults::ListingFault;
 
 impl Draft {
     // A draft without entries; mode 1 is of separate cubes, mode 2 of shared rows. Every story starts here.
+    #[tactic(auto, using(crate::proofs::Main::stories_hold))]
     pub fn open(mode: u32, inputs: u32) -> Result<Draft, ListingFault>
         ensures draft { result ≡ opened mode inputs }
         ensures stories { StoriesHold }
