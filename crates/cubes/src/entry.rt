@@ -4,6 +4,7 @@ ghost use Rattle.cubes.specs.Cubes.{waiver_entry, listed_entry, care_of, value_o
 
 use crate::Cube;
 
+// The layout of an entry's words is fixed, so a kind is a number here and no enum.
 const WAIVER_CARE: u32 = 1 << 30;
 
 const LISTED_CARE: u32 = 2 << 30;

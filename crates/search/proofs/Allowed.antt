@@ -1,24 +1,18 @@
 -- What a branch gives the inputs allows each of its rows, and is settled where it is one row; so is what the output gives.
-use Rattle.std.proofs.Common.{◌≡◌, ℕ, zero, suc, ◌/◌, ◌%◌, ◌^◌, ◌<◌, Bool, true, false, cond, not, eqb, is_some, Option, sym, refl, ap, ◌∙◌, arith, eqb-true}
-use lib.Bits.{bit_and}
+use Rattle.std.proofs.Common.{◌≡◌, ℕ, ◌/◌, ◌%◌, ◌^◌, ◌<◌, Bool, true, false, cond, not, is_some, Option, sym, refl, ap, ◌∙◌, eqb-true}
+use mathlib.Core.Bool.{and-true}
 use borrow.Author.Tests.{clash}
 use Rattle.circuit.specs.declared.ternary.Ternary.{Ternary}
 use Rattle.circuit.specs.declared.ternary.Ternary.TheVariants.{Zero, One, Unknown}
 use Rattle.circuit.specs.Kinds.{bit_at, ternary_allows, Settled, looked}
 use Rattle.cubes.specs.Cubes.{within}
-use Rattle.cubes.proofs.Bits.{and_digit}
+use Rattle.circuit.specs.Words.{and_bit}
 use Rattle.search.specs.Branches.{is_open, Single, Each, signal_of, Known}
 use Rattle.search.proofs.Opens.{shut_bit}
 
-and_one : (d c : ℕ) → d < 2 → c ≡ 1 → bit_and d c ≡ d
-and_one zero c h e = refl
-and_one (suc zero) c h e = ap (bit_and 1) e
-and_one (suc (suc d)) c h e = absurd (omega arith)
-
 -- a fixed input has the value's bit in each row
 fixed_bit : (care value row k : ℕ) → within care value row ≡ true → care / 2 ^ k % 2 ≡ 1 → bit_at value k ≡ bit_at row k
-fixed_bit care value row k w fixed =
-    ap (λ d. eqb d 1) (ap (λ x. x / 2 ^ k % 2) (sym (eqb-true _ _ w)) ∙ and_digit row care k ∙ and_one (row / 2 ^ k % 2) (care / 2 ^ k % 2) (omega arith) fixed)
+fixed_bit care value row k w fixed = rw (← (eqb-true _ _ w), and_bit row care k, fixed) (and-true (bit_at row k))
 
 module _ (n care value k : ℕ) (lt : k < n) where
   pub signal_allows : (row : ℕ) → within care value row ≡ true → ternary_allows (signal_of n care value k) 0 (bit_at row k) ≡ true

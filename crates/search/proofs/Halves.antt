@@ -1,10 +1,12 @@
 -- A branch is its two halves: what fits in one of them fits in it, and what fits in it fits in one of them.
-use Rattle.std.proofs.Common.{◌≡◌, ℕ, ◌/◌, ◌%◌, ◌^◌, ◌<◌, Bool, true, false, cond, ◌⊎◌, List, Some, None, Option, sym, ap, ◌∙◌, ap₂, inl, inr, arith, eq-eqb, eqb-true}
+use Rattle.std.proofs.Common.{◌≡◌, ℕ, ◌/◌, ◌%◌, ◌^◌, ◌<◌, Bool, true, false, cond, ◌⊎◌, List, Some, None, Option, ◌∙◌, ap₂, inl, inr, arith, eq-eqb, eqb-true}
 use lib.Bits.{bit_and, bit_or, and_comm, or_zero_r, or_lt, and_le_r}
 use lib.Pow.{pow-lt}
+use Rattle.std.proofs.lemmas.Nat.{and_or_apart}
+use Rattle.std.proofs.lemmas.Nat.Bits.{bit_at_and, bit_at_or, same_from_bits}
 use Rattle.cubes.specs.declared.entry.Entry.{Entry}
 use Rattle.cubes.specs.Deciders.{Fitting, Answer}
-use Rattle.cubes.proofs.Bits.{and_assoc, and_or, or_absorb, and_absorb, and_absorb_r, bit_apart, bit_either}
+use Rattle.cubes.proofs.Bits.{and_or, bit_apart, bit_either}
 
 -- ---- a half is a branch
 
@@ -14,32 +16,23 @@ below_or x k n h p = or_lt n x (2 ^ k) h (pow-lt p)
 pub value_below : (value care n : ℕ) → care < 2 ^ n → bit_and value care ≡ value → value < 2 ^ n
 value_below value care n h inside = omega (arith, and_le_r value care)
 
-inside_zero : (value care b : ℕ) → bit_and value care ≡ value → bit_and value (bit_or care b) ≡ value
-inside_zero value care b inside = and_or value care b ∙ ap (λ x. bit_or x (bit_and value b)) inside ∙ or_absorb value b
-
-inside_one : (value care b : ℕ) → bit_and value care ≡ value → bit_and (bit_or value b) (bit_or care b) ≡ bit_or value b
-inside_one value care b inside =
-    and_comm (bit_or value b) (bit_or care b) ∙ and_or (bit_or care b) value b
-    ∙ ap₂ bit_or (and_comm (bit_or care b) value ∙ inside_zero value care b inside) (and_absorb_r care b)
-
 pub inside_half : (bit : Bool) (value care b : ℕ) → bit_and value care ≡ value
     → bit_and (cond bit (bit_or value b) value) (bit_or care b) ≡ cond bit (bit_or value b) value
-inside_half true value care b inside = inside_one value care b inside
-inside_half false value care b inside = inside_zero value care b inside
+inside_half true value care b inside = rw (← inside) (same_from_bits _ _ (λ i. simp (bit_at_and, bit_at_or) (omega arith)))
+inside_half false value care b inside = rw (← inside) (same_from_bits _ _ (λ i. simp (bit_at_and, bit_at_or) (omega arith)))
 
 -- ---- the rows of the halves
 
 module _ (row care value b : ℕ) (inside : bit_and value care ≡ value) where
+  -- what a half fixes, the whole fixes
   via : (x : ℕ) → bit_and row (bit_or care b) ≡ x → bit_and row care ≡ bit_and x care
-  via x h = ap (bit_and row) (sym (and_absorb care b)) ∙ sym (and_assoc row (bit_or care b) care) ∙ ap (λ y. bit_and y care) h
+  via x h = rw (← h) (same_from_bits _ _ (λ i. simp (bit_at_and, bit_at_or) (omega arith)))
 
   from_zero : bit_and row (bit_or care b) ≡ value → bit_and row care ≡ value
   from_zero h = via value h ∙ inside
 
   from_one : bit_and care b ≡ 0 → bit_and row (bit_or care b) ≡ bit_or value b → bit_and row care ≡ value
-  from_one apart h =
-      via (bit_or value b) h ∙ and_comm (bit_or value b) care ∙ and_or care value b
-      ∙ ap₂ bit_or (and_comm care value ∙ inside) apart ∙ or_zero_r value
+  from_one apart h = via (bit_or value b) h ∙ and_or_apart care value b (and_comm b care ∙ apart) ∙ inside
 
 to_half : (row care value k : ℕ) → bit_and row care ≡ value
     → (bit_and row (bit_or care (2 ^ k)) ≡ value) ⊎ (bit_and row (bit_or care (2 ^ k)) ≡ bit_or value (2 ^ k))

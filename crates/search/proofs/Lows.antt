@@ -1,5 +1,5 @@
 -- Of a care only the bits of the inputs count: a cube cut to them has the same rows.
-use Rattle.std.proofs.Common.{◌≡◌, ℕ, ◌-◌, ◌^◌, ◌<◌, ◌≤◌, Bool, true, false, cond, ◌&&◌, eqb, List, Some, None, Option, sym, ap, ◌∙◌, eqb-true}
+use Rattle.std.proofs.Common.{◌≡◌, ℕ, ◌-◌, ◌^◌, ◌<◌, ◌≤◌, Bool, true, false, cond, ◌&&◌, eqb, List, Option, sym, ap, ◌∙◌, eqb-true}
 use lib.Bits.{bit_and, and_self, and_mask}
 use borrow.Author.Tests.{clash}
 use Rattle.circuit.specs.Limits.{max_inputs}
@@ -23,14 +23,6 @@ cut_none n care value outside row lt w =
 pub cut_entry : (n : ℕ) (e : Entry) (row : ℕ) → n ≤ max_inputs → row < 2 ^ n → bit_and row (bit_and e.care (2 ^ n - 1)) ≡ bit_and row (care_of e)
 cut_entry n e row le lt =
     and_low row e.care n lt ∙ sym (and_low row e.care 30 (below_limit row n le lt)) ∙ ap (bit_and row) (and_mask e.care 30)
-
--- cubes with the same rows have the same answers
-pub same_answer : (n : ℕ) (set : ℕ → Bool) (care value care' value' : ℕ) (wanted : Bool) (barred : List Entry) (r : Option ℕ)
-    → SameRows n care value care' value' → Answer n set care value wanted barred r → Answer n set care' value' wanted barred r
-same_answer n set care value care' value' wanted barred None same none =
-    λ row f. none row (record { below = f.below; inside = same row f.below ∙ f.inside; free = f.free; kind = f.kind })
-same_answer n set care value care' value' wanted barred (Some row) same f =
-    record { below = f.below; inside = sym (same row f.below) ∙ f.inside; free = f.free; kind = f.kind }
 
 -- a decider that has room answers as its circuit
 pub roomy_answer : (room : Bool) (n : ℕ) (set : ℕ → Bool) (care value : ℕ) (wanted : Bool) (barred : List Entry) (r : Option ℕ) → room ≡ true

@@ -1,29 +1,35 @@
 -- Open inputs: fixing one leaves one fewer, and where none is left the care is all ones.
-use Rattle.std.proofs.Common.{◌≡◌, ℕ, zero, suc, ◌+◌, ◌-◌, ◌*◌, ◌/◌, ◌%◌, ◌^◌, ◌<◌, true, false, ◌&&◌, eqb, sym, refl, ap, ◌∙◌, pow-suc, one-add, arith, pow_pos, shr-shr, ltb-true, lt-ltb, eqb-true}
+use Rattle.std.proofs.Common.{◌≡◌, ℕ, ◌+◌, ◌-◌, ◌*◌, ◌/◌, ◌%◌, ◌^◌, ◌<◌, true, false, sym, ap, ◌∙◌, arith, pow_pos}
 use lib.Bits.{bit_or}
+use Rattle.std.proofs.Common.{◌≤◌, inl, inr, le-ltb, Option, None, Some}
+use Rattle.std.specs.Prelude.{MatchOption}
+use Rattle.std.proofs.lemmas.Bool.{and_left, cases_lt}
 use lib.Count.{ones, ones_cat, ones_step, ones-le}
-use lib.Pow.{split}
-use borrow.Author.Tests.{eqb-false}
+use lib.Pow.{split, ones_lt}
+use Rattle.std.proofs.lemmas.Nat.Bits.{bit_at_ones, same_from_bits_below}
+use Rattle.std.proofs.lemmas.Bool.Decides.{nat_tests}
 use Rattle.cubes.proofs.Bits.{bit_added}
-use Rattle.std.proofs.lemmas.Bool.{and_parts}
 use Rattle.search.specs.Branches.{is_open, open_count, Single}
 
 module _ (n care k : ℕ) (is : is_open n care k ≡ true) where
   pub open_below : k < n
-  open_below = ltb-true _ _ (and_parts _ _ is).0
+  open_below = grind (arith, nat_tests)
 
   pub open_bit : care / 2 ^ k % 2 ≡ 0
-  open_bit = eqb-true _ _ (and_parts _ _ is).1
+  open_bit = grind (arith, nat_tests)
 
 pub shut_bit : (n care k : ℕ) → k < n → is_open n care k ≡ false → care / 2 ^ k % 2 ≡ 1
-shut_bit n care k lt is =
-    let e : eqb (care / 2 ^ k % 2) 0 ≡ false = sym (ap (λ b. b && eqb (care / 2 ^ k % 2) 0) (lt-ltb _ _ lt)) ∙ is in
-    bit_one (care / 2 ^ k % 2) (omega arith) (eqb-false _ _ e)
-  where
-    bit_one : (d : ℕ) → d < 2 → (d ≡ 0 → ⊥) → d ≡ 1
-    bit_one zero h f = absurd (f refl)
-    bit_one (suc zero) h f = refl
-    bit_one (suc (suc d)) h f = absurd (omega arith)
+shut_bit n care k lt is = grind (arith, nat_tests)
+
+-- the first open place among those of the inputs: past them none is open
+pub first_open : (n care : ℕ) (r : Option ℕ)
+    → MatchOption r ((k : ℕ) → 0 ≤ k → k < n → is_open n care k ≡ false) (λ k. (0 ≤ k) × (k < n) × (is_open n care k ≡ true) × ((j : ℕ) → 0 ≤ j → j < k → is_open n care j ≡ false))
+    → MatchOption r (Single n care) (λ k. is_open n care k ≡ true)
+first_open n care None none = λ k. elim (cases_lt k n) [
+  | inl below ↦ none k (omega arith) below
+  | inr above ↦ and_left _ _ (le-ltb _ _ above)
+]
+first_open n care (Some k) at = at.2
 
 -- one more bit
 ones_more : (care k : ℕ) → care / 2 ^ k % 2 ≡ 0 → ones (bit_or care (2 ^ k)) ≡ ones care + 1
@@ -46,15 +52,5 @@ pub one_fewer : (n care k fixed : ℕ) → is_open n care k ≡ true → fixed �
 one_fewer n care k fixed is e lt = omega (arith, ap ones e, ones_more care k (open_bit n care k is), ones-le n fixed lt)
 
 pub all_ones : (n care : ℕ) → care < 2 ^ n → Single n care → care ≡ 2 ^ n - 1
-all_ones n care lt single = by n care lt (λ k h. shut_bit n care k h (single k))
-  where
-    halved : (x k : ℕ) → x / 2 / 2 ^ k % 2 ≡ x / 2 ^ suc k % 2
-    halved x k = ap (λ y. y % 2) (shr-shr x 1 k ∙ ap (λ m. x / 2 ^ m) (one-add k))
-
-    by : (m x : ℕ) → x < 2 ^ m → ((k : ℕ) → k < m → x / 2 ^ k % 2 ≡ 1) → x ≡ 2 ^ m - 1
-    by zero x h f = omega arith
-    by (suc m) x h f =
-        let p = pow-suc 2 m in
-        let low = f 0 (omega arith) in
-        let high : x / 2 ≡ 2 ^ m - 1 = by m (x / 2) (omega arith) (λ k l. halved x k ∙ f (suc k) (omega arith)) in
-        omega (arith, pow_pos m)
+all_ones n care lt single =
+    same_from_bits_below n care (2 ^ n - 1) lt (ones_lt n) (λ i l. shut_bit n care i l (single i) ∙ sym (bit_at_ones n i l))

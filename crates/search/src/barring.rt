@@ -5,6 +5,7 @@ ghost use Rattle.search.specs.Branches.{Barred, fixes_all};
 use crate::branch::{Branch, all_fixed};
 use cubes::{Entry, meets};
 
+// Three cases, so no Option or Result would be plainer.
 #[derive(Clone, Copy)]
 pub enum Barring {
     // They hold none of its rows.

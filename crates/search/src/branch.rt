@@ -3,6 +3,7 @@ ghost use Rattle.std.specs.Prelude.{◌≡◌, ◌+◌, ◌-◌, ◌^◌, ◌<�
 ghost use Rattle.circuit.specs.Limits.{max_inputs};
 ghost use Rattle.search.specs.Branches.{is_open, open_count, Single, Each, SameRows};
 
+use circuit::bit_at;
 use cubes::Cube;
 
 #[derive(Clone, Copy)]
@@ -62,7 +63,7 @@ impl Branch {
     pub fn is_open(self, place: u32) -> bool
         ensures { result ≡ is_open self.inputs self.care place }
     {
-        place < self.inputs && (self.care >> place) % 2 == 0
+        place < self.inputs && !bit_at(self.care, place)
     }
 
     // The suggested place where its input is open, else the lowest place of an open input.
@@ -70,14 +71,10 @@ impl Branch {
         ensures { MatchOption result (Single self.inputs self.care) (λ k. is_open self.inputs self.care k ≡ true) }
     {
         if self.is_open(suggested) {
-            return Some(suggested);
+            Some(suggested)
+        } else {
+            (0..self.inputs).find(|k| self.is_open(*k))
         }
-        for k in 0..self.inputs {
-            if self.is_open(k) {
-                return Some(k);
-            }
-        }
-        None
     }
 
     // The half in which the open input at this place is fixed to the bit.

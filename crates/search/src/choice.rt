@@ -23,13 +23,12 @@ pub fn behind_output(circuit: &Circuit, values: &[Ternary]) -> u32 {
 
 // The variable of the gate's first operand where that is unknown, else of its second.
 fn unknown_operand(gates: &[u32], values: &[Ternary], gate: u32) -> u32 {
-    let at = 2 * gate as usize;
-    if at + 1 >= gates.len() {
+    let (pairs, _) = gates.as_chunks::<2>();
+    let Some([first, second]) = pairs.get(gate as usize) else {
         return 0;
-    }
-    let first = gates[at] / 2;
-    match values.get(first as usize) {
-        Some(Ternary::Unknown) => first,
-        _ => gates[at + 1] / 2,
+    };
+    match values.get((first / 2) as usize) {
+        Some(Ternary::Unknown) => first / 2,
+        _ => second / 2,
     }
 }

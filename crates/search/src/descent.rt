@@ -11,6 +11,8 @@ use circuit::{Circuit, Ternary};
 use cubes::{Question, Row};
 
 // A row of the branch, which lies in the question's cube, that fits the question: first with one open input fixed to 0, then to 1.
+// The circuit and the lent values are two arguments down to `output_on`: a struct of both would have to say in each method that it still
+// holds the same two, in as many clauses.
 pub fn descend(
     circuit: &Circuit,
     values: &mut [Ternary],

@@ -16,7 +16,8 @@ pub struct Search<'a, 'b> {
     values: &'b mut [Ternary],
 }
 
-// What making gives: a decider in any case, one of no inputs where it is refused, and whether the value table has room.
+// What making gives: a decider and whether the value table has room. By a rule of the project a decider whose making is refused is still
+// there, with no inputs and no rows, so this is no Result with it inside.
 #[derive(Drop)]
 pub struct Made<'a, 'b> {
     pub search: Search<'a, 'b>,

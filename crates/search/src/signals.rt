@@ -27,9 +27,6 @@ pub fn output_on(circuit: &Circuit, values: &mut [Ternary], branch: Branch) -> O
     requires { Ready (netlist circuit.now) branch.inputs (length values.old) }
     ensures { Known branch.inputs branch.care branch.value (solves (netlist circuit.now)) result }
 {
-    match evaluate_on(circuit, branch, values) {
-        Ok(output) => output.look(0),
-        // There is room, so nothing is refused.
-        Err(_) => None,
-    }
+    // There is room, so nothing is refused.
+    evaluate_on(circuit, branch, values).unwrap().look(0)
 }

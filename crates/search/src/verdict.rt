@@ -11,6 +11,7 @@ use crate::signals::output_on;
 use circuit::{Circuit, Ternary};
 use cubes::{Question, Row};
 
+// Three cases, so no Option or Result would be plainer.
 #[derive(Clone, Copy)]
 pub enum Verdict {
     // No row of it fits the question.
@@ -36,10 +37,8 @@ pub fn look(
         return Verdict::Empty;
     }
     let output = output_on(circuit, values, branch);
-    if let Some(bit) = output {
-        if bit != question.wanted {
-            return Verdict::Empty;
-        }
+    if output.is_some_and(|bit| bit != question.wanted) {
+        return Verdict::Empty;
     }
     if let Barring::Part(entry) = barring {
         return Verdict::Split(last_fixed(entry, branch));

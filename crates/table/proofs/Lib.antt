@@ -1,4 +1,3 @@
 pub mod Masks
-pub mod Lowest
 pub mod Questions
 pub mod Made

@@ -1,9 +1,10 @@
 -- The made table, word by word, and what it means.
-use Rattle.std.proofs.Common.{◌≡◌, ℕ, zero, suc, ◌+◌, ◌*◌, ◌/◌, ◌%◌, ◌^◌, ◌<◌, Bool, true, false, ◌&&◌, ltb, List, [], ◌∷◌, ◌++◌, map, length, get_or, drop, set, sym, refl, ap, ◌∙◌, ap₂, mod-lt, arith, pow_pos, lt-ltb}
+use Rattle.std.proofs.Common.{◌≡◌, ℕ, ◌+◌, ◌*◌, ◌/◌, ◌%◌, ◌^◌, ◌<◌, Bool, ◌&&◌, ltb, List, map, drop, set, ap, ◌∙◌, ap₂, mod-lt, arith, pow_pos, lt-ltb}
 use lib.Bits.{bit_and, and_le_l}
+use mathlib.Core.Bool.{and-true}
 use Rattle.std.specs.List.{range_with_len}
-use Rattle.std.proofs.lemmas.List.{drop_more, get_or_append_left}
-use Rattle.std.proofs.lemmas.List.FromFn.{map-range_with_len_more, length-map-range_with_len, get_or-map-range_with_len}
+use Rattle.std.proofs.lemmas.List.{get_or_append_left}
+use Rattle.std.proofs.lemmas.List.FromFn.{length-map-range_with_len, get_or-map-range_with_len}
 use Rattle.circuit.specs.Circuits.{Netlist}
 use Rattle.circuit.specs.Kinds.{bit_at}
 use Rattle.circuit.specs.Lanes.{Lanes, words}
@@ -14,7 +15,7 @@ use Rattle.circuit.proofs.WordRows.{rows_in_words, used_row}
 use Rattle.circuit.specs.Words.{and_bit}
 use Rattle.table.specs.Tables.{word_of, filled, table_rows, rows_of}
 
--- ---- one word, and one more
+-- ---- one word
 
 pub word_made : (n w word used : ℕ) (set : ℕ → Bool) → word < 2 ^ 32 → w < words n → Lanes word (λ b. set (32 * w + b)) → Lanes used (λ b. ltb b (2 ^ n))
     → bit_and word used ≡ word_of n set w
@@ -22,38 +23,20 @@ word_made n w word used set small h lanes rows =
     word_is (bit_and word used) _ (omega (arith, and_le_l word used))
     (λ b l. and_bit word used b ∙ ap₂ ◌&&◌ (lanes b l) (rows b l ∙ used_row n w b h l))
 
-set_after : (xs : List ℕ) (x v : ℕ) (ys : List ℕ) (i : ℕ) → i ≡ length xs → set (xs ++ x ∷ ys) i v ≡ (xs ++ v ∷ []) ++ ys
-set_after [] x v ys i e = ap (λ j. set (x ∷ ys) j v) e
-set_after (y ∷ xs) x v ys zero e = absurd (omega arith)
-set_after (y ∷ xs) x v ys (suc i) e = ap (λ l. y ∷ l) (set_after xs x v ys i (omega arith))
-
-pub word_more : (f : ℕ → ℕ) (ws old : List ℕ) (w v : ℕ) → w < length old → ws ≡ map f (range_with_len 0 w) ++ drop w old → v ≡ f w
-    → set ws w v ≡ map f (range_with_len 0 (w + 1)) ++ drop (w + 1) old
-word_more f ws old w v h e ev =
-    ap (λ l. set l w v) (e ∙ ap (λ l. map f (range_with_len 0 w) ++ l) (drop_more old w 0 h))
-    ∙ set_after (map f (range_with_len 0 w)) (get_or old w 0) v (drop (w + 1) old) w (sym (length-map-range_with_len f 0 w))
-    ∙ ap (λ l. l ++ drop (w + 1) old) (ap (λ x. map f (range_with_len 0 w) ++ x ∷ []) ev ∙ sym (map-range_with_len_more f 0 w w (omega arith)))
-
 -- ---- what the table means
-
-and_yes : (a b : Bool) → b ≡ true → (a && b) ≡ a
-and_yes true b h = h
-and_yes false b h = refl
 
 filled_rows : (n : ℕ) (set : ℕ → Bool) (ws : List ℕ) (row : ℕ) → row < 2 ^ n → table_rows (filled n set ws) row ≡ set row
 filled_rows n set ws row h =
     let all = rows_in_words n in
     let w = row / 32 in
     let b = row % 32 in
-    let lb : b < 32 = omega arith in
     let lw : w < words n = omega arith in
     let back : 32 * w + b ≡ row = omega arith in
     let long = length-map-range_with_len (word_of n set) 0 (words n) in
-    ap (λ x. bit_at x b)
-    (get_or_append_left (map (word_of n set) (range_with_len 0 (words n))) (drop (words n) ws) 0 w (omega arith)
-    ∙ get_or-map-range_with_len (word_of n set) 0 (words n) w w 0 lw (omega arith))
-    ∙ lane_of 32 b (λ b. set (32 * w + b) && ltb (32 * w + b) (2 ^ n)) lb
-    ∙ ap (λ r. set r && ltb r (2 ^ n)) back ∙ and_yes (set row) (ltb row (2 ^ n)) (lt-ltb row (2 ^ n) h)
+    let word = get_or_append_left (map (word_of n set) (range_with_len 0 (words n))) (drop (words n) ws) 0 w (omega arith)
+    ∙ get_or-map-range_with_len (word_of n set) 0 (words n) w w 0 lw (omega arith) in
+    ap (λ x. bit_at x b) word ∙ lane_of 32 b (λ b. set (32 * w + b) && ltb (32 * w + b) (2 ^ n)) (omega arith)
+    ∙ rw (back, lt-ltb row (2 ^ n) h) (and-true (set row))
 
 -- its rows are the circuit's solutions
 pub made_rows : (c : Netlist) (ws : List ℕ) (m : ℕ) (now : List ℕ) → 0 < c.inputs → m ≡ c.inputs → now ≡ filled c.inputs (solves c) ws

@@ -23,6 +23,7 @@ pub struct Table<'a> {
 
 impl<'a> Table<'a> {
     // Makes the table of the circuit's solutions in `bits`. A refusal alters nothing; else what the value table holds afterwards is free.
+    // By a rule of the project a decider whose making is refused is still there, with no inputs and no rows, so this is no Result with it inside.
     pub fn make(
         circuit: &Circuit,
         bits: &'a mut [u32],
@@ -61,8 +62,9 @@ impl<'a> Decider for Table<'a> {
 
     fn ask(&mut self, question: Question) -> Option<Row> {
         if self.inputs == 0 {
-            return first(0, &[0], question);
+            first(0, &[0], question)
+        } else {
+            first(self.inputs, self.bits, question)
         }
-        first(self.inputs, self.bits, question)
     }
 }

@@ -30,10 +30,8 @@ fn table_word(circuit: &Circuit, w: u32, values: &mut [Word]) -> u32
     requires values { highest (netlist circuit.now) < length values.old }
     ensures { result ≡ word_of circuit.now.inputs (solves (netlist circuit.now)) w }
 {
-    match solve_word(circuit, w, values) {
-        Ok(word) => word.bits() & used_lanes(circuit.inputs()),
-        Err(_) => unreachable(),
-    }
+    let word = solve_word(circuit, w, values).unwrap();
+    word.bits() & used_lanes(circuit.inputs())
 }
 
 // Fills the words that the rows need.
@@ -42,7 +40,8 @@ pub fn fill(circuit: &Circuit, bits: &mut [u32], values: &mut [Word])
     requires values { highest (netlist circuit.now) < length values.old }
     ensures { bits.new ≡ filled circuit.now.inputs (solves (netlist circuit.now)) bits.old }
 {
-    for w in 0..circuit.word_count() {
-        bits[w as usize] = table_word(circuit, w, values);
+    let words = &mut bits[..circuit.word_count() as usize];
+    for (w, word) in words.iter_mut().enumerate() {
+        *word = table_word(circuit, w as u32, values);
     }
 }

@@ -1,28 +1,22 @@
 // A question, a word of 32 rows at a time.
 ghost use Rattle.std.specs.Prelude.{◌≡◌, ℕ, ◌+◌, ◌*◌, ◌^◌, ◌<◌, ◌≤◌, true, not, ◌&&◌, length};
 ghost use Rattle.circuit.specs.Limits.{max_table_inputs};
-ghost use Rattle.circuit.specs.Kinds.{bit_at, same};
+ghost use Rattle.circuit.specs.Kinds.{bit_at};
 ghost use Rattle.circuit.specs.Lanes.{Lanes, words};
 ghost use Rattle.cubes.specs.Cubes.{within, held};
 ghost use Rattle.cubes.specs.Questions.{Answered};
 ghost use Rattle.table.specs.Tables.{fits, table_rows};
 
-use crate::lanes::{LANES, mask};
+use crate::lanes::{LANES, mask, of_kind};
 use circuit::used_lanes;
 use cubes::{Cube, Entry, Question, Row};
-
-// The lanes of a word that have the wanted bit.
-fn of_kind(word: u32, wanted: bool) -> u32
-    ensures { Lanes result (λ b. same wanted (bit_at word b)) }
-{
-    if wanted { word } else { !word }
-}
 
 // Of the lanes of word w those that no barred entry holds.
 fn free(barred: &[Entry], w: u32, start: u32) -> u32
     ensures { Lanes result (λ b. bit_at start b && not (held barred.now (32 * w + b))) }
 {
     let mut left = start;
+    // Where no lane is left, the other entries need no look.
     for e in barred {
         if left == 0 {
             return 0;
@@ -49,10 +43,7 @@ fn end_word(n: u32, cube: Cube) -> u32
 {
     let rows = 1u32 << n;
     let most = cube.value() + (rows - 1 - cube.care() % rows);
-    if most < rows {
-        return most / LANES + 1;
-    }
-    (rows - 1) / LANES + 1
+    most.min(rows - 1) / LANES + 1
 }
 
 // The first row that fits, from the word of the cube's value on: no row of the cube is below it.

@@ -4,10 +4,12 @@ use Rattle.circuit.specs.Solutions.{solves}
 use Rattle.search.proofs.Allowed.{signal_allows, signal_settled, looked_known}
 use Rattle.search.proofs.signals.output_on.Goals as goal
 
-pub returns-in-Ok : goal.returns-in-Ok
-returns-in-Ok c =
+pub returns : goal.returns
+returns c =
     let b = c.args.branch in
     let same = c.requires.same in
-    looked_known b.inputs b.care b.value (solves (netlist c.args.circuit.now)) c.in-Ok.output c.look.result c.look.ensures
-    (λ row lt w. c.in-Ok.ensures.sound row 0 (lit< tt) (λ k l. signal_allows b.inputs b.care b.value k (omega arith) row w))
-    (λ single. c.in-Ok.ensures.settled 0 (lit< tt) (λ k l. signal_settled b.inputs b.care b.value k (omega arith) (single k)))
+    let sound = rw c.unwrap.ensures at c.evaluate_on.ensures.sound in
+    let settled = rw c.unwrap.ensures at c.evaluate_on.ensures.settled in
+    looked_known b.inputs b.care b.value (solves (netlist c.args.circuit.now)) c.unwrap.result c.look.result c.look.ensures
+    (λ row lt w. sound row 0 (lit< tt) (λ k l. signal_allows b.inputs b.care b.value k (omega arith) row w))
+    (λ single. settled 0 (lit< tt) (λ k l. signal_settled b.inputs b.care b.value k (omega arith) (single k)))

@@ -1,4 +1,4 @@
-use Rattle.std.proofs.Common.{◌≡◌, ◌%◌, ◌^◌, ◌&&◌, eqb, sym, ap, ◌∙◌, ap₂, arith}
+use Rattle.std.proofs.Common.{◌≡◌, ◌%◌, ◌^◌, eqb, sym, ap, ◌∙◌, ap₂, arith}
 use native.Mathlib.Nat.{mod-one}
 use lib.Bits.{bit_and}
 use Rattle.circuit.specs.Words.{and_bit}
@@ -11,8 +11,7 @@ loop-k-init c = λ b l. ones_lane b l ∙ sym (ap₂ eqb (mod-one (bit_and b c.a
 
 pub loop-k-preserved : goal.loop-k-preserved
 loop-k-preserved c = λ b l.
-    and_bit c.loop-k.left c.side-left.result b ∙ ap₂ ◌&&◌ (c.loop-k.invariant b l) (c.side-left.ensures b l)
-    ∙ sym (more_places (bit_and b c.args.cube.care) c.args.cube.value c.loop-k.k)
+    rw (and_bit c.loop-k.left c.side-left.result b, more_places (bit_and b c.args.cube.care) c.args.cube.value c.loop-k.k, c.loop-k.invariant b l, c.side-left.ensures b l)
 
 pub returns : goal.returns
 returns c =
