@@ -3,12 +3,16 @@
 #![tactic(auto)]
 
 use aiger::read;
+use circuit::{MAX_GATES, Reading};
 use faults::JobFault;
 use frames::{Frame, Frames};
 use std::io;
 use std::io::Read;
 
 const MODULUS: u64 = 1_000_000_007;
+
+// No gate table needs more words; a line of the input that asks for more is an error.
+const MAX_WORDS: u32 = 2 * MAX_GATES;
 
 // Prints the table, or a sum over it where it is long.
 fn print_table(rt: &HostRuntime, table: &[u32]) -> io::Result<()> {
@@ -29,10 +33,11 @@ fn print_table(rt: &HostRuntime, table: &[u32]) -> io::Result<()> {
 // Reads one file into a gate table that holds something else before, and prints the answer and the table.
 fn print_case(rt: &HostRuntime, case: u32, file: &[u8], table: &mut [u32]) -> io::Result<()> {
     match read(file, table) {
-        Ok(reading) => {
-            let inputs = reading.inputs;
-            let gates = reading.gates;
-            let output = reading.output;
+        Ok(Reading {
+            inputs,
+            gates,
+            output,
+        }) => {
             print!(rt; "{case} circuit {inputs} {gates} {output} |")?;
         }
         Err(fault) => {
@@ -48,6 +53,9 @@ fn main(rt: HostRuntime) -> io::Result<()> {
     rt.stdin().read_to_end(&mut all)?;
     for frame in Frames::new(all.as_slice()) {
         let Frame { number, file, room } = frame?;
+        if room > MAX_WORDS {
+            return Err(io::Error::from(io::ErrorKind::InvalidData));
+        }
         let mut table = vec![in rt.alloc(); 7u32; room as usize]?;
         print_case(&rt, number, file, table.as_mut_slice())?;
     }

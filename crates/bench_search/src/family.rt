@@ -98,6 +98,6 @@ fn pair_cube(inputs: u32, variable: u32, bit: bool) -> Entry
     let pair = 3u32 << (inputs - variable - 1);
     Entry {
         care: pair | 1,
-        value: if bit { pair | 1 } else { pair },
+        value: pair | u32::from(bit),
     }
 }

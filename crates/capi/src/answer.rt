@@ -1,4 +1,4 @@
-// What a call tells beside the text, in numbers that C can read.
+// What a call tells beside the text, in numbers that C can read: an enum may not cross to C, so layer and stage are numbers.
 ghost use Rattle.std.specs.Prelude.{◌≡◌};
 ghost use Rattle.capi.specs.Answers.{layer_code, stage_code, succeeded, refused};
 

@@ -11,13 +11,14 @@ use cubes::Entry;
 use jobs::{BIT_WORDS, ENTRIES, GATE_WORDS, PLACES, Workspace};
 
 // Lists the solutions of the file's circuit in a mode, as `jobs::list` does, with work memory of its own. Gives 0, or
-// the number of the refusal.
+// the number of the refusal. The mode is a number, as `jobs::list` takes it, and C has no other.
 #[unsafe(no_mangle)]
 pub extern "C" fn jerovuha_list(file: &[u8], mode: u32, text: &mut [u8], answer: &mut Answer) -> u32
     ensures value { (result, answer.new, text.new) ≡ answered (list_of file.now mode enough blank_register text.old) }
     ensures fits { answer.new.length ≤ length text.new }
     ensures told { result ≡ 0 → Told file.now enough.gate_table mode (take answer.new.length text.new) }
 {
+    // On the stack, since the library has no heap and the caller lends only the text.
     let mut gate_table = [0u32; GATE_WORDS];
     let mut bits = [0u32; BIT_WORDS];
     let mut words = [Word::new(0); PLACES];

@@ -1,5 +1,6 @@
 // Why a case has no answer.
 use faults::{CircuitFault, Fault, ListingFault, TableFault};
+use listing::Refusal;
 use std::alloc::AllocError;
 
 #[derive(Drop)]
@@ -35,5 +36,11 @@ impl From<TableFault> for Failure {
 impl From<ListingFault> for Failure {
     fn from(fault: ListingFault) -> Failure {
         Failure::Refused(Fault::Listing(fault))
+    }
+}
+
+impl From<Refusal> for Failure {
+    fn from(refusal: Refusal) -> Failure {
+        Failure::from(refusal.fault)
     }
 }

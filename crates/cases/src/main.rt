@@ -8,7 +8,6 @@ mod failure;
 mod files;
 mod reading;
 mod registers;
-mod runs;
 mod tell;
 mod waiving;
 mod widest;

@@ -1,12 +1,12 @@
 // The limits of a register and of the text memory.
 use crate::circuits::{always, either_table};
 use crate::failure::Failure;
-use crate::runs::{EMPTY, finish, step};
 use crate::tell::tell;
-use crate::waiving::waive_rows;
+use crate::waiving::{EMPTY, waive_rows};
 use circuit::Word;
 use cubes::{Cube, Entry};
 use faults::ListingFault;
+use jobs::finish;
 use listing::{Draft, Finished, Step};
 use std::alloc::{AllocError, Global};
 use std::io;
@@ -16,7 +16,7 @@ use table::Table;
 fn listed(register: &mut [Entry]) -> Result<Finished, ListingFault> {
     let mut bits = [0u32; 1];
     let mut table = either_table(&mut bits);
-    finish(Draft::open(1, 2)?, register, &mut table)
+    finish(Draft::open(1, 2)?.begin(), register, &mut table)
 }
 
 // The finished listing of `either` without row 3: the cubes are the rows 1 and 2.
@@ -25,7 +25,7 @@ fn listed_but_one(register: &mut [Entry]) -> Result<Finished, ListingFault> {
     let mut table = either_table(&mut bits);
     let mut draft = Draft::open(1, 2)?;
     draft.waive(register, Cube::low(3, 3))?;
-    finish(draft, register, &mut table)
+    finish(draft.begin(), register, &mut table)
 }
 
 fn total(heap: Global, finished: &Finished, register: &[Entry]) -> Result<String, Failure> {
@@ -65,12 +65,12 @@ fn second_next(front: u32) -> Result<&'static str, Failure> {
     let mut bits = [0u32; 1];
     let mut table = either_table(&mut bits);
     let mut register = [EMPTY; 2];
-    let running = match step(Draft::open(1, 2)?.begin(), &mut register, &mut table)? {
+    let running = match Draft::open(1, 2)?.begin().next(&mut register, &mut table)? {
         Step::Listed(running) => running,
         Step::Ended(_) => return Ok("ended"),
     };
     let front = &mut register[0..front.min(2) as usize];
-    Ok(word(step(running, front, &mut table)?))
+    Ok(word(running.next(front, &mut table)?))
 }
 
 // A next of a listing of 2 inputs, with a decider of so many.
@@ -80,7 +80,7 @@ fn next_with(inputs: u32) -> Result<&'static str, Failure> {
     let (mut table, _) = Table::make(&always(inputs), &mut bits, &mut values);
     let mut register = [EMPTY; 1];
     let draft = Draft::open(1, 2)?;
-    Ok(word(step(draft.begin(), &mut register, &mut table)?))
+    Ok(word(draft.begin().next(&mut register, &mut table)?))
 }
 
 // Waives so many of all 8,192 rows of 13 inputs, and calls next.
@@ -91,7 +91,7 @@ fn next_after(heap: Global, waivers: u32) -> Result<&'static str, Failure> {
     let mut register = vec![in heap; EMPTY; 4097]?;
     let mut draft = Draft::open(1, 13)?;
     waive_rows(&mut draft, register.as_mut_slice(), waivers)?;
-    Ok(word(step(draft.begin(), register.as_mut_slice(), &mut table)?))
+    Ok(word(draft.begin().next(register.as_mut_slice(), &mut table)?))
 }
 
 // Prints the list of `either`, with a front part of the register, into a text of so many bytes.

@@ -1,12 +1,13 @@
 // The limits of opening a listing and of its waivers.
 use crate::failure::Failure;
-use crate::runs::EMPTY;
 use crate::tell::tell;
 use cubes::{Cube, Entry};
 use faults::ListingFault;
 use listing::Draft;
 use std::alloc::Global;
 use std::io;
+
+pub const EMPTY: Entry = Entry { care: 0, value: 0 };
 
 fn opened(mode: u32, inputs: u32) -> Result<&'static str, Failure> {
     Draft::open(mode, inputs)?;

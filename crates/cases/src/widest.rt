@@ -1,9 +1,10 @@
 // The widest cube: thirty inputs, output 1.
 use crate::failure::Failure;
 use crate::files::circuit_file;
-use crate::runs::{EMPTY, finish};
 use crate::tell::tell;
+use crate::waiving::EMPTY;
 use circuit::{Circuit, Ternary};
+use jobs::finish;
 use listing::Draft;
 use search::Search;
 use std::alloc::Global;
@@ -16,7 +17,7 @@ fn list(heap: Global, mode: u32) -> Result<String, Failure> {
     let mut values = [Ternary::Zero; 31];
     let mut made = Search::make(Circuit::take_up(reading, &[]), &mut values);
     let mut register = [EMPTY; 1];
-    let finished = finish(Draft::open(mode, 30)?, &mut register, &mut made.search)?;
+    let finished = finish(Draft::open(mode, 30)?.begin(), &mut register, &mut made.search)?;
     let cubes = finished.cubes();
     let total = finished.total(&register)?;
     let first = register[0].cube();

@@ -16,15 +16,19 @@ fn look(heap: Global, file: &[u8]) -> Result<Result<Summary, JobFault>, AllocErr
 }
 
 fn show(rt: &HostRuntime, summary: Summary) -> Result<(), Failure> {
-    let inputs = summary.inputs;
-    let gates = summary.gates;
-    let output = summary.output;
+    let Summary {
+        inputs,
+        gates,
+        output,
+        solutions,
+        smallest,
+    } = summary;
     println!(rt; "inputs {inputs} gates {gates} output {output}")?;
-    match summary.solutions {
+    match solutions {
         Some(count) => println!(rt; "solutions {count}")?,
         None => println!(rt; "solutions not counted above 16 inputs")?,
     }
-    match summary.smallest {
+    match smallest {
         Some(row) => {
             let bits = row_text(rt.alloc(), inputs, row)?;
             println!(rt; "smallest solution {bits}")?;
@@ -34,7 +38,7 @@ fn show(rt: &HostRuntime, summary: Summary) -> Result<(), Failure> {
     Ok(())
 }
 
-// Prints the summary or the refusal. No refusal is a success.
+// Prints the summary or the refusal. No refusal is a success. `shell` has the same of a text; there it says why they are two.
 fn tell(rt: &HostRuntime, answer: Result<Summary, JobFault>) -> Result<(), Failure>
     ensures { is_ok answer ≡ false → is_ok result ≡ false }
 {

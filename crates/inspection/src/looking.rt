@@ -20,13 +20,15 @@ use search::{Made, Search};
 use table::Table;
 
 // The smallest row of the decider's set.
+#[tactic(auto, using(crate::proofs::Smallest::nothing_barred))]
 fn smallest<D: Decider>(decider: &mut D) -> Option<Row>
     ensures { result ≡ (if nat_le (D.Decider.arity decider.old) max_inputs then lead (D.Decider.arity decider.old) (D.Decider.rows decider.old) else None) }
 {
     smallest_row(decider, &[])
 }
 
-// By a table of all rows.
+// By a table of all rows. This and `smallest_by_search` stay two: they lend different memory, and a decider of either kind
+// would borrow both, so that neither could be promised as it was.
 fn smallest_in_table(
     circuit: &Circuit,
     bits: &mut [u32],

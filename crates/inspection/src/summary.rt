@@ -17,6 +17,7 @@ pub struct Summary {
 }
 
 // The row's bits as text, input 1 first.
+#[tactic(auto, using(crate::proofs::Rows::row_more))]
 pub fn row_text(heap: Global, inputs: u32, row: Row) -> Result<String, AllocError>
     ensures { IfOk result (λ s. string_bytes s ≡ row_text inputs row) }
 {

@@ -1,10 +1,10 @@
 -- The circuit of a written file is taken up as it is. Assumes nothing.
-use Rattle.std.proofs.Common.{◌≡◌, ℕ, ◌+◌, ◌-◌, ◌*◌, ◌/◌, ◌<◌, ◌≤◌, min, max, true, ltb, leb, List, [], ◌∷◌, ◌++◌, length, take, replicate, refl, ap, ◌∙◌, ap₂, arith, length-append}
+use Rattle.std.proofs.Common.{◌≡◌, ℕ, ◌+◌, ◌-◌, ◌*◌, ◌<◌, ◌≤◌, min, max, true, List, [], ◌∷◌, ◌++◌, length, take, replicate, refl, ap, ◌∙◌, ap₂, arith, length-append}
 use native.Mathlib.Nat.{max-le, min-le_left}
 use lib.Seq.{take-append_seam}
-use Rattle.std.proofs.lemmas.Bool.{cond-true, and_from, lt-ltb, le-leb}
+use Rattle.std.proofs.lemmas.Bool.{cond-true, and_from, le-leb}
+use Rattle.std.proofs.lemmas.Bool.Decides.{nat_tests}
 use Rattle.circuit.specs.declared.reading.Reading.{Reading}
-use Rattle.circuit.specs.Limits.{max_inputs, max_gates}
 use Rattle.circuit.specs.Circuits.{Netlist, ordered, within_limits, taken_up}
 use Rattle.aiger.specs.Grammar.{GateLines, Written, gate_words, gate_table}
 
@@ -20,9 +20,8 @@ words_ordered i k j (g ∷ gs) ts rest e lines =
     let second : g.1 < 2 * (i + 1 + k) = lines.1.1 in
     let most : max g.0 g.1 ≤ 2 * (i + 1 + k) - 1 = max-le (omega arith) (omega arith) in
     let least : min g.0 g.1 ≤ g.0 = min-le_left g.0 g.1 in
-    and_from (ltb (max g.0 g.1) (2 * (i + 1 + j / 2))) _ (lt-ltb _ _ (omega arith))
-    (and_from (ltb (min g.0 g.1) (2 * (i + 1 + (j + 1) / 2))) _ (lt-ltb _ _ (omega arith))
-    (words_ordered i (k + 1) (j + 1 + 1) gs lines.0 rest (omega arith) lines.2))
+    let rest_ordered = words_ordered i (k + 1) (j + 1 + 1) gs lines.0 rest (omega arith) lines.2 in
+    grind (arith, nat_tests, and_from)
 
 module _ (file : List ℕ) (words : ℕ) (r : Reading) (gs : List (ℕ × ℕ)) (w : Written file words r gs) where
   abbrev table : List ℕ
@@ -48,11 +47,9 @@ module _ (file : List ℕ) (words : ℕ) (r : Reading) (gs : List (ℕ × ℕ)) 
       let inputs = w.inputs_is in
       let gates = w.gates_is in
       let below = w.output_below in
-      and_from (leb 1 r.inputs) _ (le-leb 1 r.inputs (omega arith))
-      (and_from (leb r.inputs max_inputs) _ (le-leb r.inputs max_inputs (omega arith))
-      (and_from (leb r.gates max_gates) _ (le-leb r.gates max_gates (omega arith))
-      (and_from (leb r.output (2 * (r.inputs + r.gates) + 1)) _ (le-leb r.output (2 * (r.inputs + r.gates) + 1) (omega arith))
-      (and_from (leb (2 * r.gates) (length table)) _ (le-leb (2 * r.gates) (length table) table_holds) gates_ordered))))
+      let holds = table_holds in
+      let order = gates_ordered in
+      grind (arith, nat_tests, and_from, le-leb)
 
   abbrev with_gates : List ℕ → Netlist
   with_gates ws = record { inputs = r.inputs; output = r.output; gates = ws }

@@ -1,5 +1,5 @@
 mod Runs
-mod Stages
+pub mod Stages
 mod RunStories
 mod Prints
 mod Circuits

@@ -1,7 +1,6 @@
 -- What a successful print has written. Assumes nothing.
-use Rattle.std.proofs.Common.{◌≡◌, ℕ, ◌≤◌, ltb, List, ◌++◌, length, take, drop, is_ok, Ok, Err, Result, sym, ap, ◌∙◌, arith, length-append}
+use Rattle.std.proofs.Common.{◌≡◌, ℕ, ◌≤◌, ltb, List, ◌++◌, length, take, drop, Ok, Err, Result, sym, ap, ◌∙◌, arith, length-append}
 use lib.Seq.{take-append_seam}
-use borrow.Author.Tests.{clash}
 use Rattle.std.proofs.lemmas.Bool.{cond_both}
 use Rattle.faults.specs.declared.job.Fault.{Fault}
 use Rattle.faults.specs.declared.table.TableFault.{TableFault}
@@ -11,9 +10,6 @@ use Rattle.listing.specs.declared.states.Finished.{Finished}
 use Rattle.listing.specs.Calls.{entries, cubes_in}
 use Rattle.pla.specs.Printed.{carried, printed}
 use Rattle.pla.specs.Text.{text_of}
-
-no_text : (fault : Fault) (size : ℕ) → ◌≡◌ {A = Result ℕ Fault} (Err fault) (Ok size) → ⊥
-no_text fault size e = clash (ap (λ (r : Result ℕ Fault). is_ok r) e)
 
 module _ (f : Finished) (register : List Entry) (memory : List ℕ) where
   abbrev pub the_text : List ℕ
@@ -36,6 +32,6 @@ module _ (f : Finished) (register : List Entry) (memory : List ℕ) where
   pub printed_begins : (size : ℕ) → Wrote size (printed f register memory)
   printed_begins size =
       let wrote : Result ℕ TableFault × List ℕ → Type 0 = λ w. Wrote size (carried w.0, w.1) in
-      cond_both (ltb (length register) (entries f.listing)) _ _ (Wrote size) (λ _ e. absurd (no_text _ size e))
+      cond_both (ltb (length register) (entries f.listing)) _ _ (Wrote size) (λ _ e. absurd (cc))
       (λ _. cond_both (ltb (length memory) (length the_text)) (Err (TextShort (length the_text)), memory) (Ok (length the_text), the_text ++ drop (length the_text) memory) wrote
-      (λ _ e. absurd (no_text _ size e)) (λ _ e. let same : length the_text ≡ size = cc in begins size same))
+      (λ _ e. absurd (cc)) (λ _ e. let same : length the_text ≡ size = cc in begins size same))

@@ -1,7 +1,6 @@
 -- A run that finishes goes on with the story of its listing, over the whole register. Assumes nothing.
-use Rattle.std.proofs.Common.{◌≡◌, ℕ, zero, suc, Bool, List, [], ◌∷◌, ◌++◌, length, get_or, take, drop, is_ok, Ok, Err, Result, sym, refl, ap, ◌∙◌, subst, subst₂, append-nil}
+use Rattle.std.proofs.Common.{◌≡◌, ℕ, zero, suc, Bool, List, [], ◌∷◌, ◌++◌, length, get_or, take, drop, Ok, Err, Result, sym, refl, ap, ◌∙◌, subst, subst₂, append-nil}
 use lib.Seq.{take-length, drop-length}
-use borrow.Author.Tests.{clash}
 use Rattle.faults.specs.declared.listing.ListingFault.{ListingFault}
 use Rattle.cubes.specs.declared.cube.Cube.{Cube}
 use Rattle.cubes.specs.declared.entry.Entry.{Entry}
@@ -23,9 +22,6 @@ pub record Ran (N : ℕ) (S : ℕ → Bool) (d : Draft) (f : Finished) (register
   pub story : Story N S (finished f) register [] cubes
   pub draft_is : f.listing.draft ≡ d
   pub inputs_are : N ≡ f.listing.draft.arity.inputs
-
-no_refusal : (fault : ListingFault) (f : Finished) (r r' : List Entry) → ◌≡◌ {A = Run} (Err fault, r) (Ok f, r') → ⊥
-no_refusal fault f r r' e = clash (ap (λ (p : Run). is_ok p.0) e)
 
 module _ (N : ℕ) (S : ℕ → Bool) where
   -- what is behind the whole register is nothing
@@ -65,11 +61,11 @@ module _ (N : ℕ) (S : ℕ → Bool) where
           draft_is = ap (λ (k : Running). k.draft) ended.0;
           inputs_are = ended.1 ∙ ap (λ (k : Running). k.draft.arity.inputs) (sym ended.0);
         })
-    next_told more rest l register cs s (Err refusal, register') e _ run = absurd (no_refusal refusal.fault f register' register'' run)
+    next_told more rest l register cs s (Err refusal, register') e _ run = absurd (cc (ap (λ (p : Run). p.0) run))
 
     pub run_told : (nexts : ℕ) (l : Running) (register : List Entry) (cs : List Cube) → Story N S (running l) register [] cs
         → run_of nexts N S l register ≡ (Ok f, register'') → Ran N S l.draft f register''
     unfolding run_of
-    run_told zero l register cs s run = absurd (no_refusal _ f register register'' run)
+    run_told zero l register cs s run = absurd (cc (ap (λ (p : Run). p.0) run))
     run_told (suc nexts) l register cs s run =
         next_told (run_of nexts N S) (run_told nexts) l register cs s (nexted l N S register) refl (after_next l N S register) run

@@ -3,6 +3,7 @@ use Rattle.std.proofs.Common.{◌≡◌, ℕ, zero, suc, ◌+◌, ◌<◌, ◌�
 use Rattle.std.proofs.lemmas.Bool.{cond_both, ltb-true, eqb-true, and_parts, not-false}
 use Rattle.cubes.specs.declared.entry.Entry.{Entry}
 use Rattle.cubes.specs.Cubes.{held}
+use Rattle.cubes.specs.Deciders.{Kept}
 use Rattle.listing.specs.declared.states.Running.{Running}
 use Rattle.listing.specs.declared.states.Finished.{Finished}
 use Rattle.listing.specs.declared.states.Step.{Step}
@@ -36,50 +37,52 @@ after_next l n solutions register =
     (λ _. cond_both (not (eqb n inputs)) _ _ (Nexted l n) (λ _. tt)
     (λ same. after_lead l n (eqb-true n inputs (not-false (eqb n inputs) same)) register unwaived covered (lead inputs (without unwaived covered))))
 
-pub lists_more : (l : Running) (n : ℕ) (solutions : ℕ → Bool) (register : List Entry) (l' : Running) (register' : List Entry)
-    → nexted l n solutions register ≡ (Ok (Listed l'), register') → (l' ≡ one_more l) × (entries l < max_entries)
-lists_more l n solutions register l' register' e = subst (Nexted l n) e (after_next l n solutions register)
-
--- what a next gave, by a decider that means the same
-pub asked : (l : Running) (n n' : ℕ) (solutions solutions' : ℕ → Bool) (register : List Entry) (p : Result Step Refusal × List Entry)
-    → n' ≡ n → solutions' ≡ solutions → p ≡ nexted l n' solutions' register → nexted l n solutions register ≡ p
-asked l n n' solutions solutions' register p inputs rows e =
-    ap₂ (λ (m : ℕ) (S : ℕ → Bool). nexted l m S register) (sym inputs) (sym rows) ∙ sym e
-
 -- ---- the run from a listing on, within the whole run
 
-module _ (n : ℕ) (solutions : ℕ → Bool) where
-  pub run_next : (nexts : ℕ) (l : Running) (register : List Entry) (p : Result Step Refusal × List Entry) → nexted l n solutions register ≡ p
-      → run_of (suc nexts) n solutions l register ≡ stepped (run_of nexts n solutions) p
-  unfolding run_of
-  run_next nexts l register p e = ap (stepped (run_of nexts n solutions)) e
+-- what is left is a run of its own, with nexts enough
+pub record Rest (n : ℕ) (solutions : ℕ → Bool) (l₀ : Running) (register₀ : List Entry) (l : Running) (register : List Entry) : Type 0 where
+  pub nexts : ℕ
+  pub enough : max_entries ≤ entries l + nexts
+  pub same : run_of most_nexts n solutions l₀ register₀ ≡ run_of (suc nexts) n solutions l register
 
-  module _ (l₀ : Running) (register₀ : List Entry) where
-    -- what is left is a run of its own, with nexts enough
-    pub record Rest (l : Running) (register : List Entry) : Type 0 where
-      pub nexts : ℕ
-      pub enough : max_entries ≤ entries l + nexts
-      pub same : run_of most_nexts n solutions l₀ register₀ ≡ run_of (suc nexts) n solutions l register
+-- a next by a decider that has kept its rows
+pub asked : {D : Type 0} {arity : D → ℕ} {set : D → ℕ → Bool} {d e : D} {l₀ l : Running} {register₀ register : List Entry} {p : Result Step Refusal × List Entry}
+    → Kept arity set d e → Rest (arity d) (set d) l₀ register₀ l register → p ≡ nexted l (arity e) (set e) register → nexted l (arity d) (set d) register ≡ p
+asked {D} {arity} {set} {d} {e} {l₀} {l} {register₀} {register} kept _ given =
+    ap₂ (λ (n : ℕ) (S : ℕ → Bool). nexted l n S register) (sym kept.inputs) (sym kept.rows) ∙ sym given
 
-    pub rest_all : Rest l₀ register₀
-    rest_all = record { nexts = max_entries; enough = omega arith; same = refl }
+run_next : (n : ℕ) (solutions : ℕ → Bool) (nexts : ℕ) (l : Running) (register : List Entry) (p : Result Step Refusal × List Entry)
+    → nexted l n solutions register ≡ p → run_of (suc nexts) n solutions l register ≡ stepped (run_of nexts n solutions) p
+unfolding run_of
+run_next n solutions nexts l register p e = ap (stepped (run_of nexts n solutions)) e
 
-    module _ (l : Running) (register register' : List Entry) (rest : Rest l register) where
-      pub rest_ends : (f : Finished) → nexted l n solutions register ≡ (Ok (Ended f), register') → run_of most_nexts n solutions l₀ register₀ ≡ (Ok f, register')
-      rest_ends f e = rest.same ∙ run_next rest.nexts l register (Ok (Ended f), register') e
+module _ {n : ℕ} {solutions : ℕ → Bool} {l₀ : Running} {register₀ : List Entry} where
+  pub rest_all : Rest n solutions l₀ register₀ l₀ register₀
+  rest_all = record { nexts = max_entries; enough = omega arith; same = refl }
 
-      pub rest_refuses : (refusal : Refusal) → nexted l n solutions register ≡ (Err refusal, register')
-          → run_of most_nexts n solutions l₀ register₀ ≡ (Err refusal.fault, register')
-      rest_refuses refusal e = rest.same ∙ run_next rest.nexts l register (Err refusal, register') e
+  module _ {l : Running} {register register' : List Entry} where
+    pub rest_ends : {f : Finished} → Rest n solutions l₀ register₀ l register → nexted l n solutions register ≡ (Ok (Ended f), register')
+        → run_of most_nexts n solutions l₀ register₀ ≡ (Ok f, register')
+    rest_ends rest e = rest.same ∙ run_next n solutions rest.nexts l register _ e
 
-      pub rest_lists : (l' : Running) → nexted l n solutions register ≡ (Ok (Listed l'), register') → Rest l' register'
-      rest_lists l' e = go rest.nexts rest.enough rest.same
-        where
-          more : (l' ≡ one_more l) × (entries l < max_entries)
-          more = lists_more l n solutions register l' register' e
+    pub rest_refuses : {refusal : Refusal} → Rest n solutions l₀ register₀ l register → nexted l n solutions register ≡ (Err refusal, register')
+        → run_of most_nexts n solutions l₀ register₀ ≡ (Err refusal.fault, register')
+    rest_refuses rest e = rest.same ∙ run_next n solutions rest.nexts l register _ e
 
-          go : (nexts : ℕ) → max_entries ≤ entries l + nexts → run_of most_nexts n solutions l₀ register₀ ≡ run_of (suc nexts) n solutions l register → Rest l' register'
-          go zero enough same = let few = more.1 in absurd (omega arith)
-          go (suc nexts) enough same =
-              let one = ap entries more.0 in
-              record { nexts = nexts; enough = omega arith; same = same ∙ run_next (suc nexts) l register (Ok (Listed l'), register') e }
+    pub lists_more : {l' : Running} → Rest n solutions l₀ register₀ l register → nexted l n solutions register ≡ (Ok (Listed l'), register')
+        → (l' ≡ one_more l) × (entries l < max_entries)
+    lists_more _ e = subst (Nexted l n) e (after_next l n solutions register)
+
+    pub rest_lists : {l' : Running} → Rest n solutions l₀ register₀ l register → nexted l n solutions register ≡ (Ok (Listed l'), register')
+        → Rest n solutions l₀ register₀ l' register'
+    rest_lists {l'} rest e = go rest.nexts rest.enough rest.same
+      where
+        more : (l' ≡ one_more l) × (entries l < max_entries)
+        more = lists_more rest e
+
+        go : (nexts : ℕ) → max_entries ≤ entries l + nexts → run_of most_nexts n solutions l₀ register₀ ≡ run_of (suc nexts) n solutions l register
+            → Rest n solutions l₀ register₀ l' register'
+        go zero enough same = let few = more.1 in absurd (omega arith)
+        go (suc nexts) enough same =
+            let one = ap entries more.0 in
+            record { nexts = nexts; enough = omega arith; same = same ∙ run_next n solutions (suc nexts) l register _ e }

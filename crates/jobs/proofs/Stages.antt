@@ -1,6 +1,6 @@
 -- A job stage by stage: with the circuit that was read and the decider that was made it goes on. Assumes nothing.
-use Rattle.std.proofs.Common.{◌≡◌, ℕ, ◌<◌, ◌≤◌, Bool, false, cond, not, ◌&&◌, leb, List, is_ok, Ok, Result, sym, ap, ◌∙◌, ap₂}
-use Rattle.std.proofs.lemmas.Bool.{both_ways, le-leb, lt-leb}
+use Rattle.std.proofs.Common.{◌≡◌, ℕ, ◌<◌, ◌≤◌, Bool, cond, ◌&&◌, leb, List, is_ok, Ok, Result, sym, ap, ◌∙◌}
+use Rattle.std.proofs.lemmas.Bool.{cond-true, cond-false, le-leb, lt-leb}
 use Rattle.faults.specs.declared.table.TableFault.{TableFault}
 use Rattle.circuit.specs.declared.reading.Reading.{Reading}
 use Rattle.circuit.specs.Circuits.{Netlist, taken_up}
@@ -10,76 +10,46 @@ use Rattle.aiger.specs.Reads.{Answer, read_of}
 use Rattle.table.specs.Tables.{table_answer}
 use Rattle.search.specs.Searches.{made_of}
 use Rattle.cubes.specs.declared.entry.Entry.{Entry}
-use Rattle.jobs.specs.Afterwards.{after, after_reading, rows_register, decided_register}
+use Rattle.jobs.specs.Afterwards.{after, after_reading, rows_register, decided_register, register_after}
 use Rattle.jobs.specs.Lists.{Outcome, Room, go_on, at_reading, rows_text, decided_text, making_of, circuit_text, list_of}
 
 -- a decider has the circuit's inputs and solutions where its making went well
 pub decided : {X : Type 0} (f : ℕ → (ℕ → Bool) → X) (answer : Result (Unit {0}) TableFault) (c : Netlist) (n : ℕ) (rows : ℕ → Bool)
     → answer ≡ Ok tt → n ≡ cond (is_ok answer) c.inputs 0 → rows ≡ (λ row. is_ok answer && solves c row)
     → f n rows ≡ f c.inputs (solves c)
-decided f answer c n rows went inputs sets =
-    let set : Result (Unit {0}) TableFault → ℕ → Bool = λ m row. is_ok m && solves c row in
-    ap₂ f (inputs ∙ ap (λ (m : Result (Unit {0}) TableFault). cond (is_ok m) c.inputs 0) went) (sets ∙ ap set went)
+decided f answer c n rows went inputs sets = rw (inputs, sets, went)
 
-module _ (answer made : Result (Unit {0}) TableFault) (mode : ℕ) (c : Netlist) (register : List Entry) (n : ℕ) (rows : ℕ → Bool)
+module _ (mode : ℕ) (c : Netlist) (register : List Entry) (answer made : Result (Unit {0}) TableFault) (n : ℕ) (rows : ℕ → Bool)
     (same : answer ≡ made) (went : answer ≡ Ok tt) (inputs : n ≡ cond (is_ok answer) c.inputs 0) (sets : rows ≡ (λ row. is_ok answer && solves c row)) where
   pub decided_text_lem : (text : List ℕ) (o : Outcome) → o ≡ rows_text mode n rows register text → o ≡ decided_text made mode c register text
-  decided_text_lem text o e =
-      e ∙ decided (λ k S. rows_text mode k S register text) answer c n rows went inputs sets
-      ∙ ap (λ (m : Result (Unit {0}) TableFault). decided_text m mode c register text) (sym went ∙ same)
+  decided_text_lem text o e = e ∙ decided (λ k S. rows_text mode k S register text) answer c n rows went inputs sets ∙ rw (← same, went)
 
   pub decided_register_lem : (register' : List Entry) → register' ≡ rows_register mode n rows register → register' ≡ decided_register made mode c register
-  decided_register_lem register' e =
-      e ∙ decided (λ k S. rows_register mode k S register) answer c n rows went inputs sets
-      ∙ ap (λ (m : Result (Unit {0}) TableFault). decided_register m mode c register) (sym went ∙ same)
+  decided_register_lem register' e = e ∙ decided (λ k S. rows_register mode k S register) answer c n rows went inputs sets ∙ rw (← same, went)
 
 -- ---- the decider is chosen by the number of inputs
 
 module _ (room : Room) (c : Netlist) where
-  abbrev chosen : Bool → Result (Unit {0}) TableFault
-  chosen few = cond few (table_answer c room.bits room.words) (made_of c room.signals)
-
   pub few_making : c.inputs ≤ max_table_inputs → table_answer c room.bits room.words ≡ making_of room c
-  few_making few = ap chosen (sym (le-leb c.inputs max_table_inputs few))
+  few_making few = sym (cond-true (leb c.inputs max_table_inputs) _ _ (le-leb c.inputs max_table_inputs few))
 
   pub many_making : max_table_inputs < c.inputs → made_of c room.signals ≡ making_of room c
-  many_making many = ap chosen (sym (lt-leb c.inputs max_table_inputs many))
+  many_making many = sym (cond-false (leb c.inputs max_table_inputs) _ _ (lt-leb c.inputs max_table_inputs many))
 
 -- ---- and the circuit is the file's
 
 module _ (room : Room) (c : Netlist) (file table : List ℕ) (r : Reading) (reads : (table, Ok r) ≡ read_of file room.gate_table) (taken : c ≡ taken_up r table) where
-  pub file_text : (mode : ℕ) (register : List Entry) (text : List ℕ) (o : Outcome) → o ≡ circuit_text room mode c register text → o ≡ list_of file mode room register text
-  file_text mode register text o e =
-      e ∙ ap (λ (d : Netlist). circuit_text room mode d register text) taken
-      ∙ ap (λ (a : Answer). go_on at_reading text a.1 (λ q. circuit_text room mode (taken_up q a.0) register text)) reads
-
   pub file_after : {X : Type 0} (was : X) (more : Netlist → X) → more c ≡ after_reading was file room more
   file_after {X} was more = ap more taken ∙ ap (λ (a : Answer). after was a.1 (λ q. more (taken_up q a.0))) reads
 
--- ---- what is lent to a decider that is not made stays as it was
+  module _ (mode : ℕ) (register : List Entry) (made : Result (Unit {0}) TableFault) (same : made ≡ making_of room c) where
+    pub file_text : (text : List ℕ) (o : Outcome) → o ≡ decided_text made mode c register text → o ≡ list_of file mode room register text
+    file_text text o e =
+        e ∙ ap (λ (m : Result (Unit {0}) TableFault). decided_text m mode c register text) same
+        ∙ ap (λ (d : Netlist). circuit_text room mode d register text) taken
+        ∙ ap (λ (a : Answer). go_on at_reading text a.1 (λ q. circuit_text room mode (taken_up q a.0) register text)) reads
 
--- the bits, words and signals before, and after, a stage
-pub record Lent {X Y Z : Type 0} (room : Room) (c : Netlist) (before after : X × Y × Z) : Type 0 where
-  pub bits : leb c.inputs max_table_inputs ≡ false → after.0 ≡ before.0
-  pub words : is_ok (table_answer c room.bits room.words) ≡ false → after.1 ≡ before.1
-  pub signals : not (leb c.inputs max_table_inputs) ≡ false → after.2 ≡ before.2
-
-module _ {X Y Z : Type 0} (room : Room) (c : Netlist) (before after : X × Y × Z) where
-  pub few_lent : c.inputs ≤ max_table_inputs → (is_ok (table_answer c room.bits room.words) ≡ false → after.1 ≡ before.1) → after.2 ≡ before.2
-      → Lent room c before after
-  few_lent few words signals =
-      let yes = le-leb c.inputs max_table_inputs few in
-      record {
-        bits = λ no. absurd (both_ways (leb c.inputs max_table_inputs) no yes);
-        words = words;
-        signals = λ _. signals;
-      }
-
-  pub many_lent : max_table_inputs < c.inputs → after.0 ≡ before.0 → after.1 ≡ before.1 → Lent room c before after
-  many_lent many bits words =
-      let no = lt-leb c.inputs max_table_inputs many in
-      record {
-        bits = λ _. bits;
-        words = λ _. words;
-        signals = λ yes. absurd (both_ways (not (leb c.inputs max_table_inputs)) yes (ap not no));
-      }
+    pub file_register : (register' : List Entry) → register' ≡ decided_register made mode c register → register' ≡ register_after file mode room register
+    file_register register' e =
+        e ∙ ap (λ (m : Result (Unit {0}) TableFault). decided_register m mode c register) same
+        ∙ file_after register (λ d. decided_register (making_of room d) mode d register)

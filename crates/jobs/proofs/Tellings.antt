@@ -1,6 +1,5 @@
 -- A job that gives a text has told the list of the file's circuit. Assumes nothing.
-use Rattle.std.proofs.Common.{◌≡◌, ℕ, ◌^◌, ◌<◌, ◌≤◌, Bool, true, not, List, [], map, length, take, drop, is_ok, IfOk, Some, None, Ok, Err, Option, Result, sym, refl, ap, ◌∙◌, subst, ap₂, zero-add}
-use borrow.Author.Tests.{clash}
+use Rattle.std.proofs.Common.{◌≡◌, ℕ, ◌^◌, ◌<◌, ◌≤◌, Bool, true, not, List, [], map, length, take, drop, IfOk, Some, None, Ok, Err, Option, Result, sym, refl, ap, ◌∙◌, subst, ap₂, zero-add}
 use Rattle.std.proofs.lemmas.Bool.{and_parts, and_from}
 use Rattle.faults.specs.declared.job.Fault.{Fault}
 use Rattle.faults.specs.declared.job.JobFault.{JobFault}
@@ -37,11 +36,11 @@ use Rattle.jobs.proofs.Circuits.{taken_as_written}
 go_on_lem : {A E : Type 0} (fault : E → JobFault) (text : List ℕ) (r : Result A E) (more : A → Outcome) (size : ℕ) (after : List ℕ)
     → go_on fault text r more ≡ (Ok size, after) → (a : A) × (r ≡ Ok a) × (more a ≡ (Ok size, after))
 go_on_lem fault text (Ok a) more size after e = (a, refl, e)
-go_on_lem fault text (Err x) more size after e = absurd (clash (ap (λ (o : Outcome). is_ok o.0) e))
+go_on_lem fault text (Err x) more size after e = absurd (cc (ap (λ (o : Outcome). o.0) e))
 
 drafted_mode : (mode : Option Mode) (arity : Option Arity) (d : Draft) → drafted mode arity ≡ Ok d → mode ≡ Some d.mode
-drafted_mode None arity d e = absurd (clash (ap (λ (r : Result Draft ListingFault). is_ok r) e))
-drafted_mode (Some m) None d e = absurd (clash (ap (λ (r : Result Draft ListingFault). is_ok r) e))
+drafted_mode None arity d e = absurd (cc)
+drafted_mode (Some m) None d e = absurd (cc)
 drafted_mode (Some m) (Some a) d e =
     let same : ◌≡◌ {A = Draft} (record { arity = a; mode = m; waivers = 0 }) d = cc in ap (λ (x : Draft). Some x.mode) same
 

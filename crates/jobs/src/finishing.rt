@@ -1,5 +1,6 @@
 // Running a listing to its end.
 ghost use Rattle.std.specs.Prelude.{◌≡◌};
+ghost use Rattle.cubes.specs.Deciders.{Kept};
 ghost use Rattle.jobs.specs.Lists.{most_nexts, run_of};
 
 use cubes::{Decider, Entry};
@@ -12,7 +13,8 @@ pub fn finish<D: Decider>(
     register: &mut [Entry],
     decider: &mut D,
 ) -> Result<Finished, ListingFault>
-    ensures { (result, register.new) ≡ run_of most_nexts (D.Decider.arity decider.old) (D.Decider.rows decider.old) running register.old }
+    ensures run { (result, register.new) ≡ run_of most_nexts (D.Decider.arity decider.old) (D.Decider.rows decider.old) running register.old }
+    ensures kept { Kept D.Decider.arity D.Decider.rows decider.old decider.new }
 {
     let mut listing = running;
     loop {

@@ -15,7 +15,9 @@ use faults::JobFault;
 use search::{Made, Search};
 use table::Table;
 
-// Lists by a table of all rows.
+// Lists by a table of all rows. This and `by_search` stay two: they lend different memory, and a decider of either kind would
+// borrow both, so that neither could be promised as it was. Mode, register and text stay three arguments: a struct over
+// the two `&mut` would name them by place at the return, in every clause.
 fn by_table(
     circuit: &Circuit,
     mode: u32,
@@ -53,7 +55,7 @@ fn by_search(
 }
 
 // Lists the solutions of the file's circuit, and writes the text of the list: mode 1 is of separate cubes, mode 2 of
-// shared rows. Gives the length of the text. A refusal leaves the text memory as it was. Afterwards the gate table holds
+// shared rows. The mode is a number, since other numbers are refused by a number of their own. Gives the length of the text. A refusal leaves the text memory as it was. Afterwards the gate table holds
 // what was read, and the register what was listed. Left open is only the memory of the decider that is asked for: the
 // bits of a table, its words once it is made, the signals of a search. The clauses name the fields of the workspace at the
 // return by place: .0 is the gate table, .1 what comes after it, and so on.
@@ -74,7 +76,6 @@ pub fn list(
     ensures signals { search_asked file.now (room_of workspace.entry) ≡ false → workspace.exit.1.1.1.0.now ≡ workspace.entry.signals.now }
     ensures register { register.new ≡ register_after file.now mode (room_of workspace.entry) register.old }
 {
-    laws();
     let Workspace {
         gate_table,
         bits,
@@ -84,13 +85,7 @@ pub fn list(
     let reading = aiger::read(file, gate_table)?;
     let circuit = Circuit::take_up(reading, gate_table);
     if circuit.inputs() <= MAX_TABLE_INPUTS {
-        by_table(&circuit, mode, bits, words, register, text)
-    } else {
-        by_search(circuit, mode, signals, register, text)
+        return by_table(&circuit, mode, bits, words, register, text);
     }
+    by_search(circuit, mode, signals, register, text)
 }
-
-// The law of two texts, which stands on the contract of `list`.
-fn laws()
-    ensures { TextsCompare }
-{}

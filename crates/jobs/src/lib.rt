@@ -10,6 +10,7 @@ mod printing;
 mod sizes;
 mod workspace;
 
+pub use finishing::finish;
 pub use from_file::list;
 pub use sizes::{BIT_WORDS, ENTRIES, GATE_WORDS, PLACES};
 pub use workspace::Workspace;

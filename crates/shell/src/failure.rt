@@ -4,6 +4,7 @@ ghost use Rattle.std.specs.Process.{exit_status};
 
 use faults::JobFault;
 use std::alloc::AllocError;
+use std::fmt;
 use std::io;
 use std::process::ExitCode;
 
@@ -31,6 +32,17 @@ impl From<io::Error> for Failure {
     }
 }
 
+impl fmt::Display for Failure {
+    fn fmt<W: fmt::Write>(&self, f: &mut fmt::Formatter<W>) -> fmt::Result {
+        f.write_str(match self {
+            Failure::Usage => "usage: takes no argument; a circuit in ASCII AIGER on standard input",
+            Failure::Refused => "refused",
+            Failure::Memory => "not enough memory",
+            Failure::Stream => "standard input or output failed",
+        })
+    }
+}
+
 // Prints a refusal, with which the program fails.
 pub fn refuse(rt: &HostRuntime, fault: JobFault) -> Result<(), Failure>
     ensures { is_ok result ≡ false }
@@ -43,15 +55,9 @@ pub fn refuse(rt: &HostRuntime, fault: JobFault) -> Result<(), Failure>
 pub fn explain(rt: &HostRuntime, res: Result<(), Failure>) -> Result<(), Failure>
     ensures { is_ok result ≡ is_ok res }
 {
-    if let Err(failure) = res {
-        match failure {
-            Failure::Usage => eprintln!(rt;
-                "usage: takes no argument; a circuit in ASCII AIGER on standard input"
-            )?,
-            Failure::Memory => eprintln!(rt; "not enough memory")?,
-            Failure::Stream => eprintln!(rt; "standard input or output failed")?,
-            Failure::Refused => {}
-        }
+    match res {
+        Ok(()) | Err(Failure::Refused) => {}
+        Err(failure) => eprintln!(rt; "{failure}")?,
     }
     res
 }
@@ -61,7 +67,7 @@ pub fn status(res: Result<(), Failure>) -> ExitCode
     ensures { exit_status result ≡ (if is_ok res then 0 else 1) }
 {
     match res {
-        Ok(()) => ExitCode::from(0),
-        Err(_) => ExitCode::from(1),
+        Ok(()) => ExitCode::SUCCESS,
+        Err(_) => ExitCode::FAILURE,
     }
 }

@@ -7,7 +7,8 @@ use crate::{Failure, explain, refuse};
 use faults::JobFault;
 use std::io::Write;
 
-// Reads a file, and prints its list or the refusal. Why it fails otherwise goes to standard error.
+// Reads a file, and prints its list or the refusal. Why it fails otherwise goes to standard error. The mode is a number, as
+// `jobs::list` takes it.
 pub fn run(rt: &HostRuntime, mode: u32) -> Result<(), Failure> {
     explain(rt, attempt(rt, mode))
 }
@@ -17,7 +18,8 @@ fn attempt(rt: &HostRuntime, mode: u32) -> Result<(), Failure> {
     tell(rt, work(rt.alloc(), &file, mode)?)
 }
 
-// Prints the text or the refusal. No refusal is a success.
+// Prints the text or the refusal. No refusal is a success. `inspect` has the same of a summary: one public function of both
+// would take a closure, and would have to require that it can be called.
 fn tell(rt: &HostRuntime, outcome: Result<Vec<u8>, JobFault>) -> Result<(), Failure>
     ensures { is_ok outcome ≡ false → is_ok result ≡ false }
 {

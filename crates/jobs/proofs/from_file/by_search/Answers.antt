@@ -5,11 +5,9 @@ use Rattle.jobs.proofs.from_file.by_search.Goals as goal
 
 pub returns : goal.returns
 returns c =
-    let numbers = netlist c.args.circuit in
-    let made = c.make-search.result.outcome in
-    let went : made ≡ Ok tt = search rules in
     let e = c.make-search.ensures in
+    let went : c.make-search.result.outcome ≡ Ok tt = search rules in
     record {
-      value = decided_text_lem made _ c.args.mode numbers _ _ _ e.outcome went e.inputs e.rows _ _ c.print_list.ensures.value;
-      register = decided_register_lem made _ c.args.mode numbers _ _ _ e.outcome went e.inputs e.rows _ c.print_list.ensures.register;
+      value = decided_text_lem c.args.mode (netlist c.args.circuit) c.args.register.now _ _ _ _ e.outcome went e.inputs e.rows c.args.text.now _ c.print_list.ensures.value;
+      register = decided_register_lem c.args.mode (netlist c.args.circuit) c.args.register.now _ _ _ _ e.outcome went e.inputs e.rows _ c.print_list.ensures.register;
     }

@@ -1,17 +1,16 @@
-use Rattle.std.proofs.Common.{◌≡◌, is_ok, Ok, Result, ap, ◌∙◌, rules}
-use Rattle.faults.specs.declared.table.TableFault.{TableFault}
+use Rattle.std.proofs.Common.{◌≡◌, Ok, rules}
 use Rattle.circuit.specs.Netlists.{netlist}
 use Rattle.jobs.proofs.Stages.{decided_text_lem, decided_register_lem}
 use Rattle.jobs.proofs.from_file.by_table.Goals as goal
 
-pub returns : goal.returns
-returns c =
-    let numbers = netlist c.args.circuit.now in
-    let made = c.make-made.result.1 in
-    let went : made ≡ Ok tt = search rules in
+pub returns-clause-value : goal.returns-clause-value
+returns-clause-value c =
     let e = c.make-made.ensures in
-    record {
-      value = decided_text_lem made _ c.args.mode numbers _ _ _ e.answer went e.inputs e.rows _ _ c.print_list.ensures.value;
-      register = decided_register_lem made _ c.args.mode numbers _ _ _ e.answer went e.inputs e.rows _ c.print_list.ensures.register;
-      words = λ no. e.values (ap (λ (m : Result (Unit {0}) TableFault). is_ok m) e.answer ∙ no);
-    }
+    let went : c.make-made.result.1 ≡ Ok tt = search rules in
+    decided_text_lem c.args.mode (netlist c.args.circuit.now) c.args.register.now _ _ _ _ e.answer went e.inputs e.rows c.args.text.now _ c.print_list.ensures.value
+
+pub returns-clause-register : goal.returns-clause-register
+returns-clause-register c =
+    let e = c.make-made.ensures in
+    let went : c.make-made.result.1 ≡ Ok tt = search rules in
+    decided_register_lem c.args.mode (netlist c.args.circuit.now) c.args.register.now _ _ _ _ e.answer went e.inputs e.rows _ c.print_list.ensures.register
