@@ -1,7 +1,8 @@
 -- What a branch gives the inputs allows each of its rows, and is settled where it is one row; so is what the output gives.
-use Rattle.std.proofs.Common.{◌≡◌, ℕ, ◌/◌, ◌%◌, ◌^◌, ◌<◌, Bool, true, false, cond, not, is_some, Option, sym, refl, ap, ◌∙◌, eqb-true}
+use Rattle.std.proofs.Common.{◌≡◌, ℕ, ◌/◌, ◌%◌, ◌^◌, ◌<◌, Bool, true, false, cond, is_some, Option, refl, ap, ◌∙◌, eqb-true}
 use mathlib.Core.Bool.{and-true}
 use borrow.Author.Tests.{clash}
+use Rattle.std.proofs.lemmas.Bool.{not-true}
 use Rattle.circuit.specs.declared.ternary.Ternary.{Ternary}
 use Rattle.circuit.specs.declared.ternary.Ternary.TheVariants.{Zero, One, Unknown}
 use Rattle.circuit.specs.Kinds.{bit_at, ternary_allows, Settled, looked}
@@ -39,12 +40,8 @@ pub looked_known : (n care value : ℕ) (set : ℕ → Bool) (v : Ternary) (r : 
     → (Single n care → Settled (ternary_allows v 0)) → Known n care value set r
 looked_known n care value set v r e allows settles = rw e (by v allows settles)
   where
-    false_of : (b : Bool) → not b ≡ true → b ≡ false
-    false_of true h = sym h
-    false_of false h = refl
-
     by : (u : Ternary) → Each n care value (λ row. ternary_allows u 0 (set row) ≡ true) → (Single n care → Settled (ternary_allows u 0))
         → Known n care value set (looked 1 (ternary_allows u) 0)
-    by Zero a s = λ row lt w. false_of (set row) (a row lt w)
+    by Zero a s = λ row lt w. not-true (set row) (a row lt w)
     by One a s = a
     by Unknown a s = λ single. clash (s single)
