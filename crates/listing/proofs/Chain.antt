@@ -1,5 +1,5 @@
 -- A list whose every cube is the widest around its lead holds only unwaived rows, and none can be opened further.
-use Rattle.std.proofs.Common.{◌≡◌, ℕ, ◌-◌, ◌/◌, ◌%◌, ◌^◌, ◌<◌, Bool, true, false, not, ◌&&◌, ◌⊎◌, List, length, take, Some, ap₂, inl, arith}
+use Rattle.std.proofs.Common.{◌≡◌, ℕ, ◌-◌, ◌/◌, ◌%◌, ◌^◌, ◌<◌, Bool, true, false, not, ◌&&◌, ◌⊎◌, List, length, take, Some, refl, ap₂, arith}
 use lib.Bits.{bit_and}
 use Rattle.std.proofs.lemmas.Bool.{both_ways}
 use Rattle.cubes.specs.declared.cube.Cube.{Cube}
@@ -10,26 +10,16 @@ use Rattle.listing.specs.Widest.{without, lead, widest}
 use Rattle.listing.specs.Calls.{allowed}
 use Rattle.listing.specs.Theorem.{in_some, at, Holds}
 use Rattle.listing.proofs.Least.{Least, least_some, least_cong}
-use Rattle.listing.proofs.Goodness.{without_parts, without_from, widest_holds, widest_only, widest_wide, widest_cong}
+use Rattle.listing.proofs.Goodness.{without_parts, holds_from, widest_only, widest_wide, widest_cong}
 use Rattle.listing.proofs.Lists.{before_by}
 
 -- ---- the rows that a new cube may hold
 
-pub allowed_from : (mode : Mode) (U T : ℕ → Bool) (r : ℕ) → U r ≡ true → T r ≡ false → allowed mode U T r ≡ true
-allowed_from Separate U T r u t = without_from U T r u t
-allowed_from Shared U T r u t = u
-
-pub allowed_wanted : (mode : Mode) (U T : ℕ → Bool) (r : ℕ) → allowed mode U T r ≡ true → U r ≡ true
-allowed_wanted Separate U T r e = (without_parts U T r e).0
-allowed_wanted Shared U T r e = e
-
-pub allowed_apart : (mode : Mode) (U T : ℕ → Bool) (r : ℕ) → mode ≡ Separate → allowed mode U T r ≡ true → T r ≡ false
-allowed_apart Separate U T r m e = (without_parts U T r e).1
-allowed_apart Shared U T r m e = absurd (cc)
-
-pub allowed_not : (mode : Mode) (U T : ℕ → Bool) (r : ℕ) → allowed mode U T r ≡ false → (U r ≡ false) ⊎ ((mode ≡ Separate) × (T r ≡ true))
-allowed_not Separate U T r e = grind arith
-allowed_not Shared U T r e = inl e
+-- an allowed row is wanted and, in mode 1, not covered; of the others one of these fails
+allowed_tells : (mode : Mode) (U T : ℕ → Bool) (r : ℕ) → ((allowed mode U T r ≡ true) × (U r ≡ true) × (mode ≡ Separate → T r ≡ false))
+    ⊎ ((allowed mode U T r ≡ false) × ((U r ≡ false) ⊎ ((mode ≡ Separate) × (T r ≡ true))))
+allowed_tells Separate U T r = grind arith
+allowed_tells Shared U T r = grind arith
 
 -- equal rows give one lead and one care
 module _ (n : ℕ) (U V T W : ℕ → Bool) (wanted : (r : ℕ) → r < 2 ^ n → U r ≡ V r) (covered : (r : ℕ) → T r ≡ W r) where
@@ -64,23 +54,21 @@ module _ (n : ℕ) (mode : Mode) (U : ℕ → Bool) (cs : List Cube) (chain : Ch
   free i = allowed mode U (in_some (take i cs))
 
   lead_free : (i : ℕ) (l : i < length cs) → free i (chain i l).row ≡ true
-  lead_free i l = let p = lead_parts i l in allowed_from mode U (in_some (take i cs)) (chain i l).row p.0 p.1
+  lead_free i l = let p = lead_parts i l in grind (arith, allowed_tells mode U (in_some (take i cs)) (chain i l).row)
 
   held_free : (i r : ℕ) → Holds n cs i r → free i r ≡ true
   held_free i r h =
       let f = chain i h.0 in widest_only n (free i) f.row (lead_of i h.0).below (lead_free i h.0) r (rw (f.value, f.care) at h.1)
 
   pub chain_only : (i r : ℕ) → Holds n cs i r → U r ≡ true
-  chain_only i r h = allowed_wanted mode U (in_some (take i cs)) r (held_free i r h)
+  chain_only i r h = grind (arith, held_free i r h, allowed_tells mode U (in_some (take i cs)) r)
 
   pub chain_apart : mode ≡ Separate → (i j r : ℕ) → j < i → Holds n cs i r → Holds n cs j r → ⊥
   chain_apart m i j r k h g =
-      let l = h.0 in
-      both_ways (in_some (take i cs) r) (allowed_apart mode U (in_some (take i cs)) r m (held_free i r h)) (before_by n cs i j r (omega arith) k g)
+      let l = h.0 in grind (arith, held_free i r h, allowed_tells mode U (in_some (take i cs)) r, before_by n cs i j r (omega arith) k g)
 
   pub chain_holds : (i : ℕ) (l : i < length cs) → Holds n cs i (chain i l).row
-  chain_holds i l =
-      let f = chain i l in (l, rw (f.value, f.care) (widest_holds n (free i) f.row (lead_of i l).below (lead_free i l)))
+  chain_holds i l = let f = chain i l in (l, rw (f.value, f.care) (holds_from n _ _ f.row (lead_of i l).below refl))
 
   pub chain_wide : (i b : ℕ) → i < length cs → b < n → ((at cs i).care / 2 ^ b) % 2 ≡ 1
       → (r : ℕ) × (holds n ((at cs i).care - 2 ^ b) (bit_and (at cs i).value ((at cs i).care - 2 ^ b)) r ≡ true)
@@ -91,5 +79,5 @@ module _ (n : ℕ) (mode : Mode) (U : ℕ → Bool) (cs : List Cube) (chain : Ch
         t.0,
         rw (f.value, f.care) t.1,
         (λ h. both_ways (free i t.0) t.2 (held_free i t.0 h)),
-        allowed_not mode U (in_some (take i cs)) t.0 t.2,
+        grind (arith, t.2, allowed_tells mode U (in_some (take i cs)) t.0),
       )

@@ -1,28 +1,23 @@
 -- A chain is tight, and covers every unwaived solution once no lead is left.
-use Rattle.std.proofs.Common.{◌≡◌, ℕ, ◌^◌, ◌<◌, Bool, true, false, ◌⊎◌, List, take, None, inl, inr, arith}
+use Rattle.std.proofs.Common.{◌≡◌, ℕ, ◌^◌, ◌<◌, Bool, true, List, None, inl, inr, arith}
 use Rattle.std.proofs.lemmas.Bool.{cases_order}
 use Rattle.cubes.specs.declared.cube.Cube.{Cube}
 use Rattle.listing.specs.declared.mode.Mode.{Mode}
 use Rattle.listing.specs.declared.mode.Mode.TheVariants.{Separate}
 use Rattle.listing.specs.declared.states.Draft.{Draft}
 use Rattle.listing.specs.Widest.{without, lead}
-use Rattle.listing.specs.Theorem.{in_some, unwaived, Holds, Forbidden, Tight}
+use Rattle.listing.specs.Theorem.{in_some, unwaived, Holds, Tight}
 use Rattle.listing.proofs.Least.{least_none}
 use Rattle.listing.proofs.Lists.{some_at, some_by}
 use Rattle.listing.proofs.Chain.{Chain, chain_only, chain_apart, chain_wide}
 use Rattle.listing.proofs.Rise.{chain_smallest, chain_rises}
 use Rattle.listing.proofs.Counts.{bool_same}
 
-forbidden : (mode : Mode) (S : ℕ → Bool) (ws earlier : List Cube) (r : ℕ) → (unwaived S ws r ≡ false) ⊎ ((mode ≡ Separate) × (in_some earlier r ≡ true))
-    → Forbidden mode S ws earlier r
-forbidden mode S ws earlier r (inl h) = grind arith
-forbidden mode S ws earlier r (inr h) = inr (inr h)
-
 pub chain_tight : (d : Draft) (S : ℕ → Bool) (ws cs : List Cube) → Chain d.arity.inputs d.mode (unwaived S ws) cs → Tight d S ws cs
 chain_tight d S ws cs chain =
     record {
       wide = λ i b l k e.
-          let t = chain_wide _ _ _ _ chain i b l k e in (t.0, t.1, t.2, forbidden d.mode S ws (take i cs) t.0 t.3);
+          let t = chain_wide _ _ _ _ chain i b l k e in (t.0, t.1, t.2, grind (arith, t.3));
       fresh = λ i l. ((chain i l).row, chain_smallest _ _ _ cs chain i l);
       rises = chain_rises _ _ _ _ chain;
     }

@@ -1,5 +1,5 @@
 -- The widest cube around a row of a set: it holds the row, only rows of the set, and cannot be opened further.
-use Rattle.std.proofs.Common.{◌≡◌, ℕ, suc, ◌-◌, ◌*◌, ◌/◌, ◌%◌, ◌^◌, ◌<◌, Bool, true, false, not, ◌&&◌, sym, refl, ap, ◌∙◌, mod-eq_of_lt, arith}
+use Rattle.std.proofs.Common.{◌≡◌, ℕ, suc, ◌-◌, ◌*◌, ◌/◌, ◌%◌, ◌^◌, ◌<◌, Bool, true, false, not, ◌&&◌, sym, ap, ◌∙◌, mod-eq_of_lt, arith}
 use mathlib.Core.Path.{fun_ext}
 use lib.Bits.{bit_and, and_mask, and_le_r}
 use Rattle.std.proofs.lemmas.Bool.Decides.{nat_tests}
@@ -26,16 +26,16 @@ without_from P Q r e f = grind arith
 
 module _ (n : ℕ) (P : ℕ → Bool) (care value : ℕ) where
   pub good_only : good n P care value ≡ true → (r : ℕ) → holds n care value r ≡ true → P r ≡ true
-  good_only e r h = let b = none_all (without (holds n care value) P) (2 ^ n) e r (holds_parts n care value r h).0 in grind arith
+  good_only e r h = let b = none_all _ _ e r (holds_parts n care value r h).0 in grind arith
 
   pub good_from : ((r : ℕ) → holds n care value r ≡ true → P r ≡ true) → good n P care value ≡ true
-  good_from h = none_from (without (holds n care value) P) (2 ^ n) (λ r l. grind (arith, h r))
+  good_from h = none_from _ _ (λ r l. grind (arith, h r))
 
   pub good_not : good n P care value ≡ false → (r : ℕ) × (holds n care value r ≡ true) × (P r ≡ false)
-  good_not e = let f = none_not (without (holds n care value) P) (2 ^ n) e in let p = without_parts (holds n care value) P f.0 f.2 in (f.0, p.0, p.1)
+  good_not e = let f = none_not _ _ e in let p = without_parts (holds n care value) P f.0 f.2 in (f.0, p.0, p.1)
 
   pub not_good : (r : ℕ) → holds n care value r ≡ true → P r ≡ false → good n P care value ≡ false
-  not_good r h e = some_from (without (holds n care value) P) (2 ^ n) r (holds_parts n care value r h).0 (without_from (holds n care value) P r h e)
+  not_good r h e = some_from _ _ r (holds_parts n care value r h).0 (without_from (holds n care value) P r h e)
 
 -- ---- the same rows give the same cube
 
@@ -47,14 +47,10 @@ widest_cong n P Q row h =
 -- ---- the widest cube
 
 module _ (n : ℕ) (P : ℕ → Bool) (row : ℕ) (below : row < 2 ^ n) (wanted : P row ≡ true) where
-  pub widest_holds : holds n (widest n P row) (bit_and row (widest n P row)) row ≡ true
-  widest_holds = holds_from n (widest n P row) (bit_and row (widest n P row)) row below refl
-
   alone_good : good_around n P row (rest n 0) ≡ true
   alone_good =
-      good_from n P (rest n 0) (bit_and row (rest n 0))
-      (λ r h. let p = holds_parts n (rest n 0) (bit_and row (rest n 0)) r h in
-      ap P (sym (low r p.0) ∙ p.1 ∙ low row below) ∙ wanted)
+      good_from n P _ _
+      (λ r h. let p = holds_parts n _ _ r h in rw (← low row below, ← p.1, low r p.0) at wanted)
     where
       low : (r : ℕ) → r < 2 ^ n → bit_and r (rest n 0) ≡ r
       low r l = ap (bit_and r) (let z : rest n 0 ≡ 2 ^ n - 1 = omega arith in z) ∙ and_mask r n ∙ mod-eq_of_lt l

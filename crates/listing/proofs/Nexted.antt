@@ -37,27 +37,23 @@ module _ (l : Running) (S : ℕ → Bool) (reg : List Entry) where
 
   -- ---- with a register that is long enough and a decider of as many inputs, by the lead over the first k entries
 
-  module _ (N used k : ℕ) (o : Option ℕ) (counted : used ≡ entries l) (long : used ≤ length reg) (same : N ≡ l.draft.arity.inputs) (front : k ≡ used)
-      (leads : o ≡ lead l.draft.arity.inputs (without S (held (take k reg)))) where
-    next_led : nexted l N S reg ≡ led l reg unwaived covered o
-    next_led =
+  module _ (N used k : ℕ) (counted : used ≡ entries l) (long : used ≤ length reg) (same : N ≡ l.draft.arity.inputs) (front : k ≡ used) where
+    next_led : (o : Option ℕ) → o ≡ lead l.draft.arity.inputs (without S (held (take k reg))) → nexted l N S reg ≡ led l reg unwaived covered o
+    next_led o leads =
         cond-false _ _ _ (le-ltb (length reg) (entries l) (omega arith))
         ∙ cond-false _ _ _ (ap not (eq-eqb N _ same))
         ∙ rw (leads, front, counted, at_once) refl
 
-  module _ (N used k : ℕ) (counted : used ≡ entries l) (long : used ≤ length reg) (same : N ≡ l.draft.arity.inputs) (front : k ≡ used) where
     pub next_ends : None ≡ lead l.draft.arity.inputs (without S (held (take k reg))) → (Ok (Ended (record { listing = l })), reg) ≡ nexted l N S reg
-    next_ends leads = sym (next_led N used k None counted long same front leads)
+    next_ends leads = sym (next_led None leads)
 
     module _ (row : ℕ) (leads : Some row ≡ lead l.draft.arity.inputs (without S (held (take k reg)))) where
       pub next_full : (refusal : Refusal) → room used reg ≡ false → refusal ≡ record { listing = l; fault = RegisterFull used } → (Err refusal, reg) ≡ nexted l N S reg
-      next_full refusal full e =
-          rw (e, counted)
-          (sym (next_led N used k (Some row) counted long same front leads ∙ cond-true _ _ _ (rw counted at (ap not full))))
+      next_full refusal full e = rw (e, counted) (sym (next_led (Some row) leads ∙ cond-true _ _ _ (rw counted at (ap not full))))
 
       pub next_lists : (j care value : ℕ) (S' : ℕ → Bool) (l' : Running) (e : Entry) → room used reg ≡ true → S' ≡ S → j ≡ shut l l.draft.mode
           → care ≡ widest l.draft.arity.inputs (without S' (held (take j reg))) row → value ≡ bit_and row care
           → l' ≡ one_more l → e ≡ listed_entry care value → (Ok (Listed l'), set reg used e) ≡ nexted l N S reg
       next_lists j care value S' l' e free rows ej wide v more written =
           rw (more, written, v, wide, rows, ej, shut_allows l.draft.mode, counted)
-          (sym (next_led N used k (Some row) counted long same front leads ∙ cond-false _ _ _ (rw counted at (ap not free))))
+          (sym (next_led (Some row) leads ∙ cond-false _ _ _ (rw counted at (ap not free))))

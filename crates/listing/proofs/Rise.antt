@@ -1,22 +1,16 @@
 -- In a chain each cube's lead is the smallest row that it newly covers, and these rows rise.
-use Rattle.std.proofs.Common.{◌≡◌, ℕ, ◌^◌, ◌<◌, ◌≤◌, Bool, true, false, List, length, take, arith}
+use Rattle.std.proofs.Common.{◌≡◌, ℕ, ◌<◌, ◌≤◌, Bool, true, false, List, length, take, arith}
 use Rattle.std.proofs.lemmas.Bool.{both_ways}
 use Rattle.cubes.specs.declared.cube.Cube.{Cube}
 use Rattle.listing.specs.declared.mode.Mode.{Mode}
 use Rattle.listing.specs.Theorem.{in_some, Smallest}
-use Rattle.listing.proofs.Least.{Least}
-use Rattle.listing.proofs.Goodness.{without_from}
 use Rattle.listing.proofs.Lists.{before_by, before_less}
 use Rattle.listing.proofs.Chain.{Chain, lead_of, lead_parts, chain_only, chain_holds}
-
--- nothing that passes lies below the least
-least_le : (P : ℕ → Bool) (k r s : ℕ) → Least P k r → P s ≡ true → r ≤ s
-least_le P k r s f e = grind (arith, f.first s)
 
 module _ (n : ℕ) (mode : Mode) (U : ℕ → Bool) (cs : List Cube) (chain : Chain n mode U cs) where
   -- a wanted row that no earlier cube holds is not below the lead
   lead_le : (i : ℕ) (l : i < length cs) (s : ℕ) → U s ≡ true → in_some (take i cs) s ≡ false → (chain i l).row ≤ s
-  lead_le i l s u free = least_le _ (2 ^ n) _ s (lead_of _ _ _ _ chain i l) (without_from U (in_some (take i cs)) s u free)
+  lead_le i l s u free = grind (arith, (lead_of n mode U cs chain i l).first s)
 
   pub chain_smallest : (i : ℕ) (l : i < length cs) → Smallest n cs i (chain i l).row
   chain_smallest i l = (

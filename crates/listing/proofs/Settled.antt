@@ -15,15 +15,10 @@ module _ (fits : ℕ → Bool) where
   unfolding widened
   widened_high zero h = omega arith
   widened_high (suc b) h =
-      let x : ℕ = 2 * h + cond (fits (rest b (2 * h))) 0 1 in
-      ap (λ (y : ℕ). widened fits b x / 2 ^ y) (let e : suc b ≡ b + 1 = omega arith in e)
-      ∙ sym (shr-shr (widened fits b x) b 1) ∙ ap (λ (y : ℕ). y / 2) (widened_high b x) ∙ grind arith
+      let x : ℕ = 2 * h + cond (fits (rest b (2 * h))) 0 1 in grind (arith, widened_high b x, shr-shr (widened fits b x) b 1)
 
   pub widened_below : (b : ℕ) → widened fits b 0 < 2 ^ b
-  widened_below b =
-      let c : ℕ = widened fits b 0 in
-      let e : c ≡ c % 2 ^ b = sym (split c b) ∙ ap (λ (x : ℕ). x * 2 ^ b + c % 2 ^ b) (widened_high b 0) ∙ omega arith in
-      let l : c % 2 ^ b < 2 ^ b = mod-lt c (pow_pos b) in omega arith
+  widened_below b = let c : ℕ = widened fits b 0 in grind (arith, widened_high b 0, split c b, mod-lt c (pow_pos b))
 
   pub widened_fits : (b h : ℕ) → fits (rest b h) ≡ true → fits (widened fits b h) ≡ true
   unfolding widened

@@ -1,5 +1,5 @@
 -- Every story keeps what `Kept` says, call by call.
-use Rattle.std.proofs.Common.{◌≡◌, ℕ, ◌^◌, ◌<◌, ◌≤◌, Bool, false, not, eqb, ltb, List, [], ◌∷◌, ◌++◌, length, get_or, take, drop, Some, None, Ok, Err, Option, Result, refl, subst, arith, length-take, take-append-drop, get_or-set_same}
+use Rattle.std.proofs.Common.{◌≡◌, ℕ, ◌^◌, ◌<◌, ◌≤◌, Bool, false, not, eqb, ltb, List, [], ◌∷◌, ◌++◌, length, get_or, take, drop, set, Some, None, Ok, Err, Option, Result, refl, subst, arith, length-take, take-append-drop, get_or-set_same}
 use Rattle.std.proofs.lemmas.Bool.{cond_both, ltb-false, eqb-true, not-false}
 use Rattle.std.proofs.lemmas.Bool.Decides.{nat_tests}
 use Rattle.faults.specs.declared.listing.ListingFault.{ListingFault}
@@ -14,7 +14,7 @@ use Rattle.listing.specs.declared.states.Step.{Step}
 use Rattle.listing.specs.declared.states.Step.TheVariants.{Listed, Ended}
 use Rattle.listing.specs.declared.states.Refusal.{Refusal}
 use Rattle.listing.specs.Widest.{without, lead, widest}
-use Rattle.listing.specs.Calls.{mode_of, arity_of, drafted, room, well_formed, waiver_of, waived, entries, waivers_in, cubes_in, allowed, entry_around, led, nexted}
+use Rattle.listing.specs.Calls.{mode_of, arity_of, drafted, room, waiver_of, one_waiver, waived, entries, waivers_in, cubes_in, allowed, entry_around, led, nexted}
 use Rattle.listing.specs.Stories.{Listing, cube_of, Means, Story, opens, waives, waives_not, begins, lists, ends, nexts_not, reopens, reopens_finished}
 use Rattle.listing.specs.Theorem.{in_some, unwaived}
 use Rattle.listing.proofs.Chain.{lead_cong, care_cong}
@@ -30,19 +30,15 @@ room_free used f e = grind (arith, nat_tests)
 
 -- ---- waive
 
-module _ (S : ℕ → Bool) (d : Draft) (reg : List Entry) (ws cs : List Cube) (k : ℕ) (q : Cube) where
-  abbrev AfterWaive : (Result (Unit {0}) ListingFault × Draft × List Entry) → Type 0
-  AfterWaive (Ok u, d', front) = Kept S d' 0 (front ++ drop k reg) (ws ++ q ∷ []) cs
-  AfterWaive (Err fault, d', front) = Kept S d' 0 (front ++ drop k reg) ws cs
+module _ (S : ℕ → Bool) (d d' : Draft) (reg front : List Entry) (ws cs : List Cube) (v : Kept S d 0 reg ws cs) (k : ℕ) (q : Cube) where
+  after_waive : waived d (take k reg) q ≡ (Ok tt, d', front) → Kept S d' 0 (front ++ drop k reg) (ws ++ q ∷ []) cs
+  after_waive e =
+      let p : (d.waivers < length (take k reg)) × (d' ≡ one_waiver d) × (front ≡ set (take k reg) d.waivers (waiver_of q)) = grind (arith, nat_tests) in
+      rw (p.1, p.2, written k d.waivers reg (waiver_of q) p.0) (kept_waive S d reg ws cs v q (omega (arith, length-take k reg)))
 
-  after_waive : Kept S d 0 reg ws cs → AfterWaive (waived d (take k reg) q)
-  after_waive v =
-      let f : List Entry = take k reg in
-      cond_both (ltb (length f) d.waivers) _ _ AfterWaive (λ _. unaltered k reg v)
-      (λ _. cond_both (not (well_formed d.arity.inputs q)) _ _ AfterWaive (λ _. unaltered k reg v)
-      (λ _. cond_both (not (room d.waivers f)) _ _ AfterWaive (λ _. unaltered k reg v)
-      (λ free. let p = room_free d.waivers f free in
-      rw (written k d.waivers reg (waiver_of q) p) (kept_waive S d reg ws cs v q (omega (arith, length-take k reg))))))
+  after_no_waive : (fault : ListingFault) → waived d (take k reg) q ≡ (Err fault, d', front) → Kept S d' 0 (front ++ drop k reg) ws cs
+  after_no_waive fault e =
+      let p : (d' ≡ d) × (front ≡ take k reg) = grind arith in rw (p.0, p.1) (unaltered k reg v)
 
 -- ---- next
 
@@ -88,21 +84,19 @@ module _ (S : ℕ → Bool) (l : Running) (reg : List Entry) (ws cs : List Cube)
 
 -- ---- open
 
-abbrev AfterOpen : (ℕ → Bool) → List Entry → Result Draft ListingFault → Type 0
-AfterOpen S reg (Ok d) = Kept S d 0 reg [] []
-AfterOpen S reg (Err fault) = Unit {0}
-
-after_open : (S : ℕ → Bool) (reg : List Entry) (mode : Option Mode) (arity : Option Arity) → AfterOpen S reg (drafted mode arity)
-after_open S reg None arity = tt
-after_open S reg (Some mode) None = tt
-after_open S reg (Some mode) (Some arity) = record { room = omega arith; waivers = refl; cubes = refl; chain = λ i h. absurd (omega arith) }
+no_waivers : (mode : Option Mode) (arity : Option Arity) (d : Draft) → drafted mode arity ≡ Ok d → d.waivers ≡ 0
+no_waivers None arity d e = absurd (cc)
+no_waivers (Some mode) None d e = absurd (cc)
+no_waivers (Some mode) (Some arity) d e = let f : record { arity = arity; mode = mode; waivers = 0 } ≡ d = cc in cc
 
 -- ---- stories
 
 pub story_kept : (N : ℕ) (S : ℕ → Bool) {l : Listing} {reg : List Entry} {ws cs : List Cube} → Story N S l reg ws cs → KeptBy S l reg ws cs
-story_kept N S (opens mode n d reg e) = subst (AfterOpen S reg) e (after_open S reg (mode_of mode) (arity_of n))
-story_kept N S (waives {d = d} s k q e) = subst (AfterWaive S d _ _ _ k q) e (after_waive S d _ _ _ k q (story_kept N S s))
-story_kept N S (waives_not {d = d} s k q fault e) = subst (AfterWaive S d _ _ _ k q) e (after_waive S d _ _ _ k q (story_kept N S s))
+story_kept N S (opens mode n d reg e) =
+    let w = no_waivers (mode_of mode) (arity_of n) d e in
+    record { room = omega arith; waivers = rw w refl; cubes = refl; chain = λ i h. absurd (omega arith) }
+story_kept N S (waives s k q e) = after_waive S _ _ _ _ _ _ (story_kept N S s) k q e
+story_kept N S (waives_not s k q fault e) = after_no_waive S _ _ _ _ _ _ (story_kept N S s) k q fault e
 story_kept N S (begins s) = story_kept N S s
 story_kept N S (lists {l = l} s k D same e) = subst (AfterNext S l _ _ _ k) e (after_next S l _ _ _ k N D (story_kept N S s) same)
 story_kept N S (ends {l = l} s k D same e) = subst (AfterNext S l _ _ _ k) e (after_next S l _ _ _ k N D (story_kept N S s) same)

@@ -4,9 +4,7 @@ use lib.Seq.{set-append_left}
 use Rattle.std.proofs.lemmas.List.{drop-take}
 use Rattle.cubes.specs.declared.cube.Cube.{Cube}
 use Rattle.cubes.specs.declared.entry.Entry.{Entry}
-use Rattle.cubes.specs.Cubes.{word, held, listed_entry}
-use Rattle.listing.specs.Stories.{cube_of}
-use Rattle.listing.specs.Calls.{listed_of}
+use Rattle.cubes.specs.Cubes.{word, held}
 use Rattle.listing.specs.Theorem.{in_some}
 
 -- a word of any kind has its number in its low bits
@@ -22,9 +20,6 @@ held_entries kind [] r = refl
 held_entries kind (q ∷ qs) r =
     rw (word_low kind q.care q.numbers.0, word_low 3 q.value q.numbers.1, held_entries kind qs r) refl
 
-pub listed_again : (care value : ℕ) → care < 2 ^ 30 → value < 2 ^ 30 → listed_of (cube_of (listed_entry care value)) ≡ listed_entry care value
-listed_again care value h k = rw (word_low 2 care h, word_low 3 value k) refl
-
 -- ---- front parts
 
 pub written : (k i : ℕ) (reg : List Entry) (e : Entry) → i < length (take k reg) → set (take k reg) i e ++ drop k reg ≡ set reg i e
@@ -35,4 +30,4 @@ front_waivers w c k reg h = take-take w k reg (omega (arith, length-take k reg))
 
 pub front_cubes : (w c k : ℕ) (reg : List Entry) → w + c ≤ length (take k reg) → take c (drop w (take k reg)) ≡ take c (drop w reg)
 front_cubes w c k reg h =
-    let e = take-take (w + c) k reg (omega (arith, length-take k reg)) in rw (← drop-take, e, drop-take) refl
+    let e = take-take (w + c) k reg (omega (arith, length-take k reg)) in rw (← drop-take w c (take k reg), e, drop-take w c reg) refl
