@@ -33,11 +33,13 @@ fn print_table(rt: &HostRuntime, table: &[u32]) -> io::Result<()> {
 // Reads one file into a gate table that holds something else before, and prints the answer and the table.
 fn print_case(rt: &HostRuntime, case: u32, file: &[u8], table: &mut [u32]) -> io::Result<()> {
     match read(file, table) {
-        Ok(Reading {
-            inputs,
-            gates,
-            output,
-        }) => {
+        Ok(
+            Reading {
+                inputs,
+                gates,
+                output,
+            },
+        ) => {
             print!(rt; "{case} circuit {inputs} {gates} {output} |")?;
         }
         Err(fault) => {

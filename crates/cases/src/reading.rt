@@ -2,7 +2,7 @@
 use crate::failure::Failure;
 use crate::files::{circuit_file, file_of_bytes, file_with_digits, file_with_name};
 use crate::tell::tell;
-use circuit::{MAX_GATES, Reading};
+use circuit::MAX_GATES;
 use std::alloc::{AllocError, Global};
 use std::io;
 
@@ -12,11 +12,10 @@ const ALL_WORDS: u32 = 2 * MAX_GATES;
 // The circuit's numbers (inputs, gates, output), read into a gate table of so many words.
 fn numbers(heap: Global, file: &str, words: u32) -> Result<String, Failure> {
     let mut table = vec![in heap; 0u32; words as usize]?;
-    let Reading {
-        inputs,
-        gates,
-        output,
-    } = aiger::read(file.as_bytes(), table.as_mut_slice())?;
+    let reading = aiger::read(file.as_bytes(), table.as_mut_slice())?;
+    let inputs = reading.inputs;
+    let gates = reading.gates;
+    let output = reading.output;
     Ok(format!(in heap; "circuit {inputs} {gates} {output}")?)
 }
 

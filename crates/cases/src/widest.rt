@@ -17,7 +17,11 @@ fn list(heap: Global, mode: u32) -> Result<String, Failure> {
     let mut values = [Ternary::Zero; 31];
     let mut made = Search::make(Circuit::take_up(reading, &[]), &mut values);
     let mut register = [EMPTY; 1];
-    let finished = finish(Draft::open(mode, 30)?.begin(), &mut register, &mut made.search)?;
+    let finished = finish(
+        Draft::open(mode, 30)?.begin(),
+        &mut register,
+        &mut made.search,
+    )?;
     let cubes = finished.cubes();
     let total = finished.total(&register)?;
     let first = register[0].cube();

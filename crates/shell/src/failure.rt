@@ -4,9 +4,8 @@ ghost use Rattle.std.specs.Process.{exit_status};
 
 use faults::JobFault;
 use std::alloc::AllocError;
-use std::fmt;
-use std::io;
 use std::process::ExitCode;
+use std::{fmt, io};
 
 #[derive(Clone, Copy, Debug)]
 pub enum Failure {
@@ -35,7 +34,8 @@ impl From<io::Error> for Failure {
 impl fmt::Display for Failure {
     fn fmt<W: fmt::Write>(&self, f: &mut fmt::Formatter<W>) -> fmt::Result {
         f.write_str(match self {
-            Failure::Usage => "usage: takes no argument; a circuit in ASCII AIGER on standard input",
+            Failure::Usage =>
+                "usage: takes no argument; a circuit in ASCII AIGER on standard input",
             Failure::Refused => "refused",
             Failure::Memory => "not enough memory",
             Failure::Stream => "standard input or output failed",

@@ -24,8 +24,8 @@ returns-in-Ok c =
     record {
       said = subst₂ (λ (r : Room) (bs : List ℕ). Told c.args.file.now r.gate_table c.args.mode bs) roomy (sym text) c.in-Ok.ensures.told;
       value =
-        ap (λ (bs : List ℕ). Ok bs) text
-        ∙ ap answer_in (allocated c.args.file.now c.args.mode _ _ _ (Ok c.in-Ok.size, c.list.new.text) roomy register bytes c.in-Ok.ensures.value);
+          ap (λ (bs : List ℕ). Ok bs) text
+          ∙ ap answer_in (allocated c.args.file.now c.args.mode _ _ _ (Ok c.in-Ok.size, c.list.new.text) roomy register bytes c.in-Ok.ensures.value);
     }
 
 pub returns : goal.returns
@@ -35,12 +35,12 @@ returns c =
     let job = allocated c.args.file.now c.args.mode _ _ _ _ (c.lend.ensures ∙ c.in_ok-memory.ensures) register bytes c.in-Err.ensures.value in
     record {
       said =
-        record {
-          register = blank_register;
-          text = blank_text;
-          entries = length-replicate entry_count blank;
-          bytes = length-replicate {A = ℕ} text_bytes 0;
-          refused = sym (ap (λ (o : Outcome). o.0) job);
-        };
+          record {
+            register = blank_register;
+            text = blank_text;
+            entries = length-replicate entry_count blank;
+            bytes = length-replicate {A = ℕ} text_bytes 0;
+            refused = sym (ap (λ (o : Outcome). o.0) job);
+          };
       value = ap answer_in job;
     }
