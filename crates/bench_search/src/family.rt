@@ -36,7 +36,7 @@ impl Family {
     pub fn circuit(&self) -> Circuit<'_> {
         let reading = Reading {
             inputs: self.inputs,
-            gates: self.gates.len() as u32,
+            gates: self.gate_count(),
             output: self.output,
         };
         Circuit::take_up(reading, self.gates.as_slice().as_flattened())
@@ -49,6 +49,10 @@ impl Family {
         (0..2 * pairs)
             .map(|k| pair_cube(inputs, 2 * k + 1, k < pairs))
             .collect(heap)
+    }
+
+    fn gate_count(&self) -> u32 {
+        u32::try_from(self.gates.len()).unwrap_or(u32::MAX)
     }
 
     // How many pairs each half has.
@@ -78,7 +82,7 @@ impl Family {
     // One gate more, and its literal.
     fn and(&mut self, a: u32, b: u32) -> Result<u32, AllocError> {
         self.gates.push([a.max(b), a.min(b)])?;
-        let variable = self.inputs.saturating_add(self.gates.len() as u32);
+        let variable = self.inputs.saturating_add(self.gate_count());
         Ok(variable.saturating_mul(2))
     }
 }

@@ -15,6 +15,7 @@ fn look(heap: Global, file: &[u8]) -> Result<Result<Summary, JobFault>, AllocErr
     Ok(inspection::inspect(file, memory.lend()))
 }
 
+// Line by line and by no `Display` of the summary: two lines have cases of their own, and a row's text needs the number of inputs.
 fn show(rt: &HostRuntime, summary: Summary) -> Result<(), Failure> {
     let Summary {
         inputs,

@@ -11,7 +11,8 @@ use cubes::{Cube, Entry};
 use faults::ListingFault;
 
 impl Draft {
-    // A draft without entries; mode 1 is of separate cubes, mode 2 of shared rows. Every story starts here.
+    // A draft without entries; mode 1 is of separate cubes, mode 2 of shared rows. Every story starts here. The mode is a number, as a
+    // rule of the project wants it: other numbers are refused by a number of their own.
     #[tactic(auto, using(crate::proofs::Main::stories_hold))]
     pub fn open(mode: u32, inputs: u32) -> Result<Draft, ListingFault>
         ensures draft { result ≡ opened mode inputs }
