@@ -39,20 +39,20 @@ same_place s t e = λ i. place (sym e.0 i) (sym e.1 i)
 
 abbrev Unmarked : List Bool → List Symbol → Type 0
 Unmarked z [] = Unit {0}
-Unmarked z (s ∷ ss) = (get_or z (at s) true ≡ false) × Unmarked z ss
+Unmarked z (s ∷ ss) = (get_or z (at s) false ≡ false) × Unmarked z ss
 
 other_back : (n : ℕ) (z : List Bool) (s : Symbol) (ss : List Symbol) → at s < length z → Unmarked (set z (at s) true) ss → OtherThan s ss × Unmarked z ss
 other_back n z s [] low u = (tt, tt)
 other_back n z s (t ∷ ss) low (e, u) =
-    let ne : at t ≢ at s = λ same. true≢false (sym (get_or-set_same z (at s) true true low) ∙ ap (λ (i : ℕ). get_or (set z (at s) true) i true) (sym same) ∙ e) in
+    let ne : at t ≢ at s = λ same. true≢false (sym (get_or-set_same z (at s) true false low) ∙ ap (λ (i : ℕ). get_or (set z (at s) true) i false) (sym same) ∙ e) in
     let more = other_back n z s ss low u in
-    ((λ same. ne (same_place s t same), more.0), (sym (get_or-set_other z (at s) (at t) true true ne) ∙ e, more.1))
+    ((λ same. ne (same_place s t same), more.0), (sym (get_or-set_other z (at s) (at t) true false ne) ∙ e, more.1))
 
 other_read : (n : ℕ) (z : List Bool) (s : Symbol) (ss : List Symbol) → n ≤ max_inputs → InRange n s.letter s.position → AllIn n ss → OtherThan s ss → Unmarked z ss → Unmarked (set z (at s) true) ss
 other_read n z s [] h w v o u = tt
 other_read n z s (t ∷ ss) h w (vt, v) (o, os) (e, u) =
     let ne : at t ≢ at s = λ same. o (place_same n s.letter s.position t.letter t.position h w vt (sym same)) in
-    (get_or-set_other z (at s) (at t) true true ne ∙ e, other_read n z s ss h w v os u)
+    (get_or-set_other z (at s) (at t) true false ne ∙ e, other_read n z s ss h w v os u)
 
 free_back : (n : ℕ) (z : List Bool) (ss : List Symbol) → n ≤ max_inputs → length z ≡ slots → AllIn n ss → Free z ss → Unmarked z ss × Apart ss
 free_back n z [] h l w f = (tt, tt)
@@ -68,7 +68,7 @@ free_read n z (s ∷ ss) h (w, ws) (e, u) (o, a) = (e, free_read n (set z (at s)
 
 unmarked : (n : ℕ) (ss : List Symbol) → n ≤ max_inputs → AllIn n ss → Unmarked (replicate slots false) ss
 unmarked n [] h w = tt
-unmarked n (s ∷ ss) h (w, ws) = (get_or-replicate slots (at s) false true (place_low n s.letter s.position h w), unmarked n ss h ws)
+unmarked n (s ∷ ss) h (w, ws) = (get_or-replicate slots (at s) false false (place_low n s.letter s.position h w), unmarked n ss h ws)
 
 pub apart_free : (n : ℕ) (ss : List Symbol) → n ≤ max_inputs → AllIn n ss → Apart ss → Free (replicate slots false) ss
 apart_free n ss h w a = free_read n (replicate slots false) ss h w (unmarked n ss h w) a

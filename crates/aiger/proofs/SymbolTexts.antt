@@ -18,7 +18,7 @@ place Output p = max_inputs
 -- the symbols' slots are not marked before, nor by one another
 abbrev pub Free : List Bool → List Symbol → Type 0
 Free z [] = Unit {0}
-Free z (s ∷ ss) = (get_or z (place s.letter s.position) true ≡ false) × Free (set z (place s.letter s.position) true) ss
+Free z (s ∷ ss) = (get_or z (place s.letter s.position) false ≡ false) × Free (set z (place s.letter s.position) true) ss
 
 pub record Lines (n : ℕ) (z : List Bool) (ts : List ℕ) : Type 0 where
   pub symbols : List Symbol
@@ -36,7 +36,7 @@ pub record Named (n : ℕ) (z : List Bool) (l : Letter) (p k : ℕ) (ts : List �
   pub few : length name ≤ max_name - k
   pub bytes : NameBytes name
   pub range : InRange n l p
-  pub free : get_or z (place l p) true ≡ false
+  pub free : get_or z (place l p) false ≡ false
   pub more : Lines n (set z (place l p) true) rest
 
 abbrev pub Rest : ℕ → List Bool → State → List ℕ → Type 0

@@ -87,9 +87,9 @@ module _ (bs : List ℕ) (m : SymbolMachine) where
         more = r.more;
       })
 
-  mark_back : (R : Type 0) (o : Option ℕ) → ((s : ℕ) → o ≡ Some s → get_or m.seen s true ≡ false → RestAt bs (ended m s) → R) → Back bs R (marked m (free m.seen o))
+  mark_back : (R : Type 0) (o : Option ℕ) → ((s : ℕ) → o ≡ Some s → get_or m.seen s false ≡ false → RestAt bs (ended m s) → R) → Back bs R (marked m (free m.seen o))
   mark_back R None f = tt
-  mark_back R (Some s) f = cond_both (get_or m.seen s true) None (Some s) (λ o. Back bs R (marked m o)) (λ _. tt) (λ e. f s refl e)
+  mark_back R (Some s) f = cond_both (get_or m.seen s false) None (Some s) (λ o. Back bs R (marked m o)) (λ _. tt) (λ e. f s refl e)
 
   line_back : (l : Letter) (p k b : ℕ) → At b → b ≡ 10 → Back bs (Named m.inputs m.seen l p k (drop m.at bs)) (named m l p k)
   line_back l p k b d nb =
@@ -105,7 +105,7 @@ module _ (bs : List ℕ) (m : SymbolMachine) where
         few = omega arith;
         bytes = tt;
         range = w.0;
-        free = subst (λ (s : ℕ). get_or m.seen s true ≡ false) w.1 e;
+        free = subst (λ (s : ℕ). get_or m.seen s false ≡ false) w.1 e;
         more = subst (λ (s : ℕ). Lines m.inputs (set m.seen s true) (drop (m.at + 1) bs)) w.1 r;
       }))
 

@@ -55,7 +55,7 @@ name_byte b nb = ⊎_elim (λ t. let n = newline_byte b t in absurd (false≢tru
 named_step : (bs : List ℕ) (m : SymbolMachine) (l : Letter) (p k b : ℕ) → nameable (class_of b) ≡ true → k < max_name → step_by bs m (Name l p k) (class_of b) b ≡ Ok (moved m (Name l p (k + 1)))
 named_step bs m l p k b nb h = let n = name_byte b nb in grind (arith, nat_tests, n, nb)
 
-line_step : (m : SymbolMachine) (l : Letter) (p k : ℕ) → 1 ≤ k → InRange m.inputs l p → get_or m.seen (place l p) true ≡ false → named m l p k ≡ Ok (ended m (place l p))
+line_step : (m : SymbolMachine) (l : Letter) (p k : ℕ) → 1 ≤ k → InRange m.inputs l p → get_or m.seen (place l p) false ≡ false → named m l p k ≡ Ok (ended m (place l p))
 line_step m l p k some w new = let s = slot_within m.inputs l p w in grind (arith, nat_tests, s)
 
 place_step : (bs : List ℕ) (m : SymbolMachine) (l : Letter) (v q : ℕ) → number_at bs m.at ≡ Ok (v, q) → placed bs m l ≡ Ok (mk (Gap l v) q m.inputs m.seen)
@@ -116,7 +116,7 @@ module _ (f : ℕ) (bs : List ℕ) (ih : Fore f bs) where
       )
 
   fore_name : (l : Letter) (q k p n : ℕ) (z : List Bool) (name rest : List ℕ) → length bs - p ≤ suc f → drop p bs ≡ name ++ 10 ∷ rest → 1 ≤ k + length name → length name ≤ max_name - k → NameBytes name
-      → InRange n l q → get_or z (place l q) true ≡ false → Lines n (set z (place l q) true) rest → ran (suc f) bs (mk (Name l q k) p n z) ≡ Ok tt
+      → InRange n l q → get_or z (place l q) false ≡ false → Lines n (set z (place l q) true) rest → ran (suc f) bs (mk (Name l q k) p n z) ≡ Ok tt
   fore_name l q k p n z [] rest h e some few bytes range free more =
       let m = mk (Name l q k) p n z in
       let s : step_of bs m ≡ Ok (ended m (place l q)) = at_byte bs m 10 rest e ∙ line_step m l q k (omega arith) range free in

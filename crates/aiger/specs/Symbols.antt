@@ -50,10 +50,10 @@ abbrev pub slot_of : Letter → ℕ → ℕ → Option ℕ
 slot_of Input p n = cond (nat_lt p n) (Some p) None
 slot_of Output p n = cond (p == 0) (Some max_inputs) None
 
--- a slot that is there and not marked yet
+-- a slot that is not marked yet
 abbrev pub free : List Bool → Option ℕ → Option ℕ
 free seen None = None
-free seen (Some s) = cond (slice_index_or seen s true) None (Some s)
+free seen (Some s) = cond (slice_index_or seen s false) None (Some s)
 
 -- one byte on
 abbrev pub moved : SymbolMachine → State → SymbolMachine

@@ -49,7 +49,7 @@ impl<'a> File<'a> {
     pub fn located<T>(self, read: Result<T, TextFault>) -> Result<T, Located>
         ensures { result ≡ located_in self.entry.bytes.now read }
     {
-        // `map_err` would do it: what a closure over a file gives is not seen by the proof.
+        // Tried: `map_err`, but what a closure over a file gives is not seen by the proof.
         match read {
             Ok(x) => Ok(x),
             Err(fault) => Err(self.locate(fault)),

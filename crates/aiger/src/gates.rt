@@ -57,7 +57,7 @@ pub fn gate_lines(
     ensures { (table.new, result) ≡ gates_at file.entry.bytes.now counts.inputs 0 counts.gates start table.old }
 {
     let mut at = start;
-    // By index: over `chunks_exact_mut(2)` no invariant can name the table, so what was written would not be known.
+    // By index. Tried: `chunks_exact_mut(2)`, over which no invariant can name the table, so what was written is not known.
     for k in 0..counts.gates {
         let (gate, end) = file.located(gate_line(file.bytes, at))?;
         gate.judge(counts, k)?;

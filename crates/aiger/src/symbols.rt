@@ -1,6 +1,7 @@
-// The symbol lines and the comment: where the machine stands and the class of the byte there say what it does.
-ghost use Rattle.std.specs.Prelude.{◌≡◌, ◌<◌, IfSome};
-ghost use Rattle.aiger.specs.Symbols.{slots, free, slot_of, misfit_of, step_of, is_over, end_of, refused_at, symbols_at};
+// The symbol lines and the comment: where the machine stands and the class of the byte there say what it does. They are matched
+// together, changing the machine in place, by a rule of the project.
+ghost use Rattle.std.specs.Prelude.{◌≡◌, ◌<◌, true, slice_set};
+ghost use Rattle.aiger.specs.Symbols.{free, slot_of, misfit_of, step_of, is_over, end_of, refused_at, symbols_at};
 
 use crate::counts::Counts;
 use crate::file::File;
@@ -29,13 +30,21 @@ impl SymbolMachine {
 
     // The slot of a position, if the position is not too large and was not seen before.
     fn free_slot(&self, letter: Letter, position: u32) -> Option<usize>
-        ensures value { result ≡ free self.now.seen (slot_of letter position self.now.inputs) }
-        ensures inside { IfSome result (λ place. place < slots) }
+        ensures { result ≡ free self.now.seen (slot_of letter position self.now.inputs) }
     {
         let place = slot(letter, position, self.inputs)?;
         match self.seen.get(place) {
-            Some(seen) if !*seen => Some(place),
-            _ => None,
+            Some(true) => None,
+            _ => Some(place),
+        }
+    }
+
+    // Marks a slot. One past the last changes nothing.
+    fn mark(&mut self, place: usize)
+        ensures { self.new ≡ record { state = self.old.state; at = self.old.at; inputs = self.old.inputs; seen = slice_set self.old.seen place true } }
+    {
+        if place < SLOTS {
+            self.seen[place] = true;
         }
     }
 }
@@ -100,7 +109,7 @@ impl Machine for SymbolMachine {
                 let Some(place) = self.free_slot(letter, position) else {
                     return Err(SymbolFault::NoSlot(self.at));
                 };
-                self.seen[place] = true;
+                self.mark(place);
                 self.state = State::Start;
             }
             (State::Comment, Class::Newline) => {
@@ -143,7 +152,7 @@ pub fn symbol_lines(file: File, start: usize, counts: Counts) -> Result<(), Circ
         inputs: counts.inputs,
         seen: [false; SLOTS],
     };
-    // `map_err` would do it: what a closure over a file gives is not seen by the proof.
+    // Tried: `map_err`, but what a closure over a file gives is not seen by the proof.
     match run(file.bytes, machine) {
         Ok(()) => Ok(()),
         Err(fault) => Err(refused(file, fault)),

@@ -24,7 +24,7 @@ fn operand<V: Value>(values: &[V], of: u32) -> V
 }
 
 // Writes the value of gate `k`, from 0, into the gates' part of the value table.
-// That this part, which begins inside the table, is lent on and written there is a rule of the project.
+// A rule of the project: the gates' part, which begins inside the table, is lent on to be written.
 fn store<V: Value>(part: &mut [V], k: usize, value: V)
     requires { k < length part.old }
     ensures { part.new ≡ slice_set part.old k value }

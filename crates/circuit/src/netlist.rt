@@ -12,6 +12,7 @@ pub mod taking;
 pub struct Circuit<'a> {
     inputs: u32,
     output: u32,
+    // Two words a gate, since the layout of the gate table is fixed.
     gates: &'a [u32],
     ghost ranged: { (1 ≤ inputs) × (inputs ≤ max_inputs) },
     ghost capped: { length gates.now ≤ 2 * max_gates },

@@ -62,6 +62,7 @@ impl Located {
 }
 
 impl Rule {
+    // A rule of the project: a refusal is told by its number.
     pub fn number(self) -> u32
         ensures { result ≡ rule_number self }
     {

@@ -12,7 +12,7 @@ pub enum Layer {
     Table,
 }
 
-// Each fault gives its own by a method `report` and not by a `From`: the one of `Fault` promises more than a value.
+// Each fault gives its own by a method `report`; a `From` would be no plainer, and its clauses would have no names.
 #[derive(Clone, Copy)]
 pub struct Report {
     pub number: u32,

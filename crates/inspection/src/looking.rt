@@ -27,8 +27,9 @@ fn smallest<D: Decider>(decider: &mut D) -> Option<Row>
     smallest_row(decider, &[])
 }
 
-// By a table of all rows. This and `smallest_by_search` stay two: they lend different memory, and a decider of either kind
-// would borrow both, so that neither could be promised as it was.
+// By a table of all rows. This and `smallest_by_search` stay two, and so do `with_table` and `with_search`: one value for
+// both deciders would be no plainer, since it would borrow the memory of both, and a contract would have to say of each
+// what is left open.
 fn smallest_in_table(
     circuit: &Circuit,
     bits: &mut [u32],

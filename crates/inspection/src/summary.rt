@@ -16,7 +16,7 @@ pub struct Summary {
     pub smallest: Option<Row>,
 }
 
-// The row's bits as text, input 1 first.
+// The row's bits as text, input 1 first. No `Display`: a row is a number, and says no number of inputs.
 #[tactic(auto, using(crate::proofs::Rows::row_more))]
 pub fn row_text(heap: Global, inputs: u32, row: Row) -> Result<String, AllocError>
     ensures { IfOk result (λ s. string_bytes s ≡ row_text inputs row) }

@@ -15,9 +15,10 @@ use faults::JobFault;
 use search::{Made, Search};
 use table::Table;
 
-// Lists by a table of all rows. This and `by_search` stay two: they lend different memory, and a decider of either kind would
-// borrow both, so that neither could be promised as it was. Mode, register and text stay three arguments: a struct over
-// the two `&mut` would name them by place at the return, in every clause.
+// Lists by a table of all rows. This and `by_search` stay two, with `bits` and `words` side by side: one value for both
+// deciders would be no plainer, since it would borrow the memory of both, and a contract would have to say of each what is
+// left open. Mode, register and text stay three arguments: a struct over the two `&mut` would name them by place at the
+// return, in every clause.
 fn by_table(
     circuit: &Circuit,
     mode: u32,
@@ -54,11 +55,12 @@ fn by_search(
     print_list(mode, &mut search, register, text)
 }
 
-// Lists the solutions of the file's circuit, and writes the text of the list: mode 1 is of separate cubes, mode 2 of
-// shared rows. The mode is a number, since other numbers are refused by a number of their own. Gives the length of the text. A refusal leaves the text memory as it was. Afterwards the gate table holds
-// what was read, and the register what was listed. Left open is only the memory of the decider that is asked for: the
-// bits of a table, its words once it is made, the signals of a search. The clauses name the fields of the workspace at the
-// return by place: .0 is the gate table, .1 what comes after it, and so on.
+// Lists the solutions of the file's circuit, and writes the text of the list: mode 1 is of separate cubes, mode 2 of shared
+// rows. The mode is a number by a rule of the project, since other numbers are refused by a number of their own. Gives the
+// length of the text. A refusal leaves the text memory as it was. Afterwards the gate table holds what was read, and the
+// register what was listed. Left open is only the memory of the decider that is asked for: the bits of a table, its words
+// once it is made, the signals of a search. The clauses name the fields of the workspace at the return by place: .0 is the
+// gate table, .1 what comes after it, and so on.
 pub fn list(
     file: &[u8],
     mode: u32,

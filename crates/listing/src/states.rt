@@ -1,4 +1,5 @@
-// A listing in its three states. None can be copied, and only the calls make one.
+// A listing in its three states. None can be copied, and only the calls make one. The register is lent to each call, by a rule of the
+// project, so a listing holds its counts alone.
 ghost use Rattle.std.specs.Prelude.{◌≡◌};
 
 use crate::arity::Arity;

@@ -13,7 +13,8 @@ pub enum Position {
 }
 
 impl Position {
-    // The cube's position at the input of a bit. The value's bit at an open input does not matter.
+    // The cube's position at the input of a bit. The value's bit at an open input does not matter. By shifts, since this crate
+    // does not stand on `circuit`, which has `bit_at`.
     pub fn of(cube: Cube, bit: u32) -> Position
         requires { bit < max_inputs }
         ensures { result ≡ position_at cube.care cube.value bit }

@@ -33,7 +33,7 @@ impl<'a> Writer<'a> {
         self.at += 1;
     }
 
-    // In decimal. By hand: `write!` may fail, and no contract of std says when it does not.
+    // In decimal. Tried: `write!`, but no contract of std says when it does not fail.
     #[tactic(auto, using(crate::proofs::Decimals::length_one, crate::proofs::Decimals::length_step))]
     pub fn write_number(&mut self, number: usize)
         requires { Fits self.old (decimal number) }

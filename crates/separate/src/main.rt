@@ -6,7 +6,7 @@ use std::process::ExitCode;
 
 const SEPARATE: u32 = 1;
 
-// A program of its own for each mode, of this one line: neither takes an argument.
+// By a rule of the project each mode has a program of its own; this line is all that differs.
 fn main(rt: HostRuntime) -> ExitCode {
     status(run(&rt, SEPARATE))
 }

@@ -11,8 +11,8 @@ use std::alloc::{AllocError, Global};
 // A line of 30 inputs for each cube, and the other lines.
 const TEXT_BYTES: usize = ENTRIES * 33 + 64;
 
-// Allocates the memory, and lists the file's circuit with it: the list's text, or the refusal. The mode is a number, as
-// `jobs::list` takes it.
+// Allocates the memory, and lists the file's circuit with it: the list's text, or the refusal. The mode is a number by the
+// same rule as in `jobs::list`.
 pub fn work(heap: Global, file: &[u8], mode: u32) -> Result<Result<Vec<u8>, JobFault>, AllocError>
     ensures said { IfOk result (Said file.now mode) }
     ensures value { IfOk result (λ outcome. answer_of outcome ≡ worked file.now mode) }

@@ -7,8 +7,8 @@ use crate::{Failure, explain, refuse};
 use faults::JobFault;
 use std::io::Write;
 
-// Reads a file, and prints its list or the refusal. Why it fails otherwise goes to standard error. The mode is a number, as
-// `jobs::list` takes it.
+// Reads a file, and prints its list or the refusal. Why it fails otherwise goes to standard error. The mode is a number by the
+// same rule as in `jobs::list`.
 pub fn run(rt: &HostRuntime, mode: u32) -> Result<(), Failure> {
     explain(rt, attempt(rt, mode))
 }

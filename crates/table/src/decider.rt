@@ -23,7 +23,8 @@ pub struct Table<'a> {
 
 impl<'a> Table<'a> {
     // Makes the table of the circuit's solutions in `bits`. A refusal alters nothing; else what the value table holds afterwards is free.
-    // By a rule of the project a decider whose making is refused is still there, with no inputs and no rows, so this is no Result with it inside.
+    // By a rule of the project a decider whose making is refused is still there, with no inputs and no rows, so this is no
+    // Result with it inside.
     pub fn make(
         circuit: &Circuit,
         bits: &'a mut [u32],

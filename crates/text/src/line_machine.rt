@@ -1,4 +1,5 @@
-// The machine that reads a line of numbers: where it stands in the line and the class of the byte there say what it does.
+// The machine that reads a line of numbers: where it stands in the line and the class of the byte there say what it does. They
+// are matched together, changing the machine in place, by a rule of the project.
 ghost use Rattle.std.specs.Prelude.{◌≡◌};
 ghost use Rattle.text.specs.Steps.{fresh, is_ended, step_of, end_of};
 

@@ -39,7 +39,7 @@ fn value_of(run: &[u8]) -> u32
     requires digits { AllDigits run.now }
     ensures { result ≡ decimal 0 run.now }
 {
-    // Not a `fold`: its closure would owe that the sum fits at any value before.
+    // Tried: `fold`, whose closure owes that the sum fits at any value before.
     let mut value: u32 = 0;
     for digit in run {
         value = value * 10 + u32::from(*digit - b'0');
@@ -47,8 +47,8 @@ fn value_of(run: &[u8]) -> u32
     value
 }
 
-// The number at `at`, and the place after it. A file and a place go in as they are, since a cursor would have to be made of
-// both at each call, and taken apart for the answer.
+// The number at `at`, and the place after it: by a rule of the project a value and the next place come out, so a file and a
+// place go in, here and in the lines above.
 pub fn number(file: &[u8], at: usize) -> Result<(u32, usize), TextFault>
     ensures value { result ≡ number_at file.now at }
     ensures forward { IfOk result (λ v. at < v.1) }
