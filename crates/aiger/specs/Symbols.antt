@@ -4,6 +4,8 @@
 --   state         where in the line the machine stands: at its start, at the position, at the blank after it, in the name
 --                 after so many bytes of it; behind the c of the comment, or done
 --   slot          the place of a letter and a position among the marks of those already seen
+--   free          the slot, if no line before marked it
+--   NoSlot        the fault of a position that is too large or whose slot is marked; refused_at gives a fault its line
 --   step_of       what the byte where the machine stands does, or the position that begins there
 use Rattle.std.specs.Prelude.{ℕ, ◌+◌, Bool, true, false, cond, List, length, replicate, Some, None, Ok, Err, Option, Result, ◌==◌, nat_le, nat_lt, slice_index, slice_index_or, slice_set}
 use Rattle.std.specs.Result.{result_map_both}
