@@ -1,5 +1,6 @@
-// Files in one run of bytes, as a program reads them from standard input. A line of three numbers stands before a file: the
-// file's number, its bytes, and how much room it is given.
+// Many files in one run of bytes, as a program reads them from standard input.
+// Takes the bytes, in which a line of three numbers (the file's number, its bytes, its room) stands before each file; gives the files.
+// Promises which files they are, up to the first frame that is bad.
 #![tactic(auto)]
 
 ghost use Rattle.std.specs.Prelude.{◌≡◌, length};
