@@ -3,7 +3,7 @@
 
     python3 tools/misuses.py
 
-The gate's must-fail edits cannot show this, since they take an edit that does not compile for a mistake in the edit. So each
+Must-fail edits cannot show this, since an edit that does not compile is taken for a mistake in the edit. So each
 misuse is put into a crate of its own beside a copy of the repository's crates, and `rt check` must give the message that stands
 with it. The right use, with which it begins, must be proved.
 """
