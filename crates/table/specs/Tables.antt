@@ -4,9 +4,10 @@
 --   word_of        a word of the table of a set: bits that are no rows are 0
 --   filled         the table of a set, and further words as they were
 --   table_answer   what making a table answers, with a table of so many words and a value table of so many places
+--   stands         a table of n inputs may stand in so many words
 --   fits           a row fits a question, where its bit of the table is `kind`
 -- Assumes nothing.
-use Rattle.std.specs.Prelude.{ℕ, ◌+◌, ◌*◌, ◌/◌, ◌%◌, ◌^◌, Bool, cond, not, ◌&&◌, List, ◌++◌, map, drop, Err, Result, nat_lt, slice_index}
+use Rattle.std.specs.Prelude.{ℕ, ◌+◌, ◌*◌, ◌/◌, ◌%◌, ◌^◌, Bool, cond, not, ◌&&◌, List, ◌++◌, map, drop, Err, Result, nat_lt, nat_le, slice_index}
 use Rattle.std.specs.List.{range_with_len}
 use Rattle.faults.specs.declared.table.TableFault.{TableFault}
 use Rattle.faults.specs.declared.table.TableFault.TheVariants.{TooManyInputs, BitsShort}
@@ -40,6 +41,9 @@ abbrev pub table_answer : Netlist → ℕ → ℕ → Result (Unit {0}) TableFau
 table_answer c size places =
     cond (nat_lt max_table_inputs c.inputs) (Err (TooManyInputs c.inputs))
     (cond (nat_lt size (words c.inputs)) (Err (BitsShort (words c.inputs))) (with_room c places tt))
+
+abbrev pub stands : ℕ → ℕ → Bool
+stands n size = nat_le n max_table_inputs && nat_le (words n) size
 
 -- ---- the questions
 

@@ -1,14 +1,14 @@
 // The table decider, made from a circuit in lent memory.
-ghost use Rattle.std.specs.Prelude.{◌≡◌, ◌<◌, ◌≤◌, false, ◌&&◌, length, is_ok, if◌then◌else◌};
+ghost use Rattle.std.specs.Prelude.{◌≡◌, ℕ, ◌<◌, ◌≤◌, false, ◌&&◌, List, length, is_ok, if◌then◌else◌};
 ghost use Rattle.circuit.specs.Netlists.{netlist};
 ghost use Rattle.circuit.specs.Limits.{max_table_inputs};
 ghost use Rattle.circuit.specs.Lanes.{words};
 ghost use Rattle.circuit.specs.Solutions.{solves};
-ghost use Rattle.table.specs.Tables.{table_answer, filled, rows_of};
+ghost use Rattle.table.specs.Tables.{table_answer, filled, rows_of, stands};
 
-use crate::making::{fill, room};
+use crate::making::tabulate;
 use crate::question::first;
-use circuit::{Circuit, Word};
+use circuit::{Circuit, MAX_TABLE_INPUTS, Word};
 use cubes::{Decider, Question, Row};
 use faults::TableFault;
 
@@ -36,18 +36,24 @@ impl<'a> Table<'a> {
         ensures rows { rows_of result.0.inputs result.0.bits.now ≡ (λ row. is_ok result.1 && solves (netlist circuit.now) row) }
         ensures values { is_ok result.1 ≡ false → values.new ≡ values.old }
     {
-        match room(circuit, bits.len(), values.len()) {
-            Ok(()) => {
-                fill(circuit, bits, values);
-                (
-                    Table {
-                        inputs: circuit.inputs(),
-                        bits,
-                    },
-                    Ok(()),
-                )
-            }
+        match tabulate(circuit, bits, values) {
+            Ok(()) => (Table::over(circuit, bits), Ok(())),
             Err(fault) => (Table { inputs: 0, bits }, Err(fault)),
+        }
+    }
+
+    // The decider over bits that are there already. Its rows are the circuit's solutions where `tabulate` wrote the bits;
+    // it has none where too few bits are lent for a table of the circuit.
+    pub fn over(circuit: &Circuit, bits: &'a [u32]) -> Table<'a>
+        ensures bits { result.bits.now ≡ bits.now }
+        ensures inputs { result.inputs ≡ (if stands circuit.now.inputs (length bits.now) then circuit.now.inputs else 0) }
+        ensures rows { result.inputs ≡ circuit.now.inputs → (ws : List ℕ) → bits.now ≡ filled circuit.now.inputs (solves (netlist circuit.now)) ws → rows_of result.inputs bits.now ≡ solves (netlist circuit.now) }
+    {
+        let inputs = circuit.inputs();
+        if inputs <= MAX_TABLE_INPUTS && circuit.word_count() as usize <= bits.len() {
+            Table { inputs, bits }
+        } else {
+            Table { inputs: 0, bits }
         }
     }
 }

@@ -9,3 +9,4 @@ mod making;
 mod question;
 
 pub use decider::Table;
+pub use making::tabulate;
