@@ -1,10 +1,10 @@
 // A first look at a file's circuit.
-ghost use Rattle.std.specs.Prelude.{◌≡◌, ◌/◌, false, not, length, if◌then◌else◌, None, is_ok, nat_le};
+ghost use Rattle.std.specs.Prelude.{◌≡◌, ◌/◌, false, not, ◌&&◌, length, if◌then◌else◌, None, is_ok, nat_le};
 ghost use Rattle.circuit.specs.Limits.{max_table_inputs};
 ghost use Rattle.circuit.specs.Netlists.{netlist};
 ghost use Rattle.listing.specs.Limits.{max_inputs};
 ghost use Rattle.listing.specs.Widest.{lead};
-ghost use Rattle.jobs.specs.Afterwards.{gates_after, search_asked, table_asked, table_made};
+ghost use Rattle.jobs.specs.Afterwards.{bits_after, gates_after, search_made, table_made, tabulated};
 ghost use Rattle.jobs.specs.Lists.{room_of};
 ghost use Rattle.inspection.specs.Inspections.{smallest_by, summary_of, counted_summary, searched_summary, circuit_summary, inspected};
 ghost use Rattle.search.specs.Searches.{made_of};
@@ -17,7 +17,7 @@ use faults::{JobFault, TableFault};
 use jobs::Workspace;
 use listing::smallest_row;
 use search::{Made, Search};
-use table::Table;
+use table::{Table, tabulate};
 
 // The smallest row of the decider's set.
 #[tactic(auto, using(crate::proofs::Smallest::nothing_barred))]
@@ -36,22 +36,20 @@ fn smallest_in_table(
     words: &mut [Word],
 ) -> Result<Option<Row>, TableFault>
     ensures value { result ≡ smallest_by (table_answer (netlist circuit.now) (length bits.old) (length words.old)) (netlist circuit.now) }
+    ensures bits { bits.new ≡ tabulated (netlist circuit.now) (length words.old) bits.old }
     ensures words { is_ok (table_answer (netlist circuit.now) (length bits.old) (length words.old)) ≡ false → words.new ≡ words.old }
 {
-    let (mut table, made) = Table::make(circuit, bits, words);
-    made?;
-    Ok(smallest(&mut table))
+    tabulate(circuit, bits, words)?;
+    Ok(smallest(&mut Table::over(circuit, bits)))
 }
 
-// By a search of the rows.
+// By a search of the rows; its places are checked first, as for a job.
 fn smallest_by_search(circuit: Circuit, signals: &mut [Ternary]) -> Result<Option<Row>, TableFault>
-    ensures { result ≡ smallest_by (made_of (netlist circuit.entry) (length signals.old)) (netlist circuit.entry) }
+    ensures value { result ≡ smallest_by (made_of (netlist circuit.entry) (length signals.old)) (netlist circuit.entry) }
+    ensures signals { is_ok (made_of (netlist circuit.entry) (length signals.old)) ≡ false → signals.new ≡ signals.old }
 {
-    let Made {
-        mut search,
-        outcome,
-    } = Search::make(circuit, signals);
-    outcome?;
+    circuit.check_places(signals.len())?;
+    let Made { mut search, .. } = Search::make(circuit, signals);
     Ok(smallest(&mut search))
 }
 
@@ -73,6 +71,7 @@ fn with_table(
     words: &mut [Word],
 ) -> Result<Summary, TableFault>
     ensures value { result ≡ counted_summary (netlist circuit.now) (length bits.old) (length words.old) }
+    ensures bits { bits.new ≡ tabulated (netlist circuit.now) (length words.old) bits.old }
     ensures words { is_ok (table_answer (netlist circuit.now) (length bits.old) (length words.old)) ≡ false → words.new ≡ words.old }
 {
     let smallest = smallest_in_table(circuit, bits, words)?;
@@ -81,7 +80,8 @@ fn with_table(
 }
 
 fn with_search(circuit: Circuit, signals: &mut [Ternary]) -> Result<Summary, TableFault>
-    ensures { result ≡ searched_summary (netlist circuit.entry) (length signals.old) }
+    ensures value { result ≡ searched_summary (netlist circuit.entry) (length signals.old) }
+    ensures signals { is_ok (made_of (netlist circuit.entry) (length signals.old)) ≡ false → signals.new ≡ signals.old }
 {
     let smallest = smallest_by_search(circuit, signals)?;
     Ok(summary(&circuit, None, smallest))
@@ -95,9 +95,9 @@ fn look(
     signals: &mut [Ternary],
 ) -> Result<Summary, TableFault>
     ensures value { result ≡ circuit_summary (netlist circuit.entry) (length bits.old) (length words.old) (length signals.old) }
-    ensures bits { nat_le circuit.entry.inputs max_table_inputs ≡ false → bits.new ≡ bits.old }
+    ensures bits { bits.new ≡ tabulated (netlist circuit.entry) (length words.old) bits.old }
     ensures words { is_ok (table_answer (netlist circuit.entry) (length bits.old) (length words.old)) ≡ false → words.new ≡ words.old }
-    ensures signals { not (nat_le circuit.entry.inputs max_table_inputs) ≡ false → signals.new ≡ signals.old }
+    ensures signals { (not (nat_le circuit.entry.inputs max_table_inputs) && is_ok (made_of (netlist circuit.entry) (length signals.old))) ≡ false → signals.new ≡ signals.old }
 {
     if circuit.inputs() <= MAX_TABLE_INPUTS {
         return with_table(&circuit, bits, words);
@@ -106,14 +106,15 @@ fn look(
 }
 
 // The circuit's numbers, the number of its solutions up to 16 inputs, and the smallest solution. Afterwards the gate table
-// holds what was read. Left open is only the memory of the decider that is asked for, as after a job. The clauses name the
-// fields of the workspace at the return by place: .0 is the gate table, .1 what comes after it, and so on.
+// holds what was read, and the bits the table if one is made. Left open are only the value tables of the decider that is
+// made, as after a job. The clauses name the fields of the workspace at the return by place: .0 is the gate table, .1 what
+// comes after it, and so on.
 pub fn inspect(file: &[u8], workspace: Workspace) -> Result<Summary, JobFault>
     ensures value { result ≡ inspected file.now (room_of workspace.entry) }
     ensures gates { workspace.exit.0.now ≡ gates_after file.now (room_of workspace.entry) }
-    ensures bits { table_asked file.now (room_of workspace.entry) ≡ false → workspace.exit.1.0.now ≡ workspace.entry.bits.now }
+    ensures bits { workspace.exit.1.0.now ≡ bits_after file.now (room_of workspace.entry) workspace.entry.bits.now }
     ensures words { table_made file.now (room_of workspace.entry) ≡ false → workspace.exit.1.1.0.now ≡ workspace.entry.words.now }
-    ensures signals { search_asked file.now (room_of workspace.entry) ≡ false → workspace.exit.1.1.1.0.now ≡ workspace.entry.signals.now }
+    ensures signals { search_made file.now (room_of workspace.entry) ≡ false → workspace.exit.1.1.1.0.now ≡ workspace.entry.signals.now }
 {
     let Workspace {
         gate_table,

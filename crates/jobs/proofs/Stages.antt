@@ -1,5 +1,5 @@
 -- A job stage by stage: with the circuit that was read and the decider that was made it goes on. Assumes nothing.
-use Rattle.std.proofs.Common.{◌≡◌, ℕ, ◌<◌, ◌≤◌, Bool, cond, ◌&&◌, leb, List, is_ok, Ok, Result, sym, ap, ◌∙◌}
+use Rattle.std.proofs.Common.{◌≡◌, ℕ, ◌<◌, ◌≤◌, Bool, cond, ◌&&◌, leb, ltb, List, is_ok, Ok, Result, sym, ap, ◌∙◌, lt-ltb}
 use Rattle.std.proofs.lemmas.Bool.{cond-true, cond-false, le-leb, lt-leb}
 use Rattle.faults.specs.declared.table.TableFault.{TableFault}
 use Rattle.circuit.specs.declared.reading.Reading.{Reading}
@@ -7,10 +7,10 @@ use Rattle.circuit.specs.Circuits.{Netlist, taken_up}
 use Rattle.circuit.specs.Limits.{max_table_inputs}
 use Rattle.circuit.specs.Solutions.{solves}
 use Rattle.aiger.specs.Reads.{Answer, read_of}
-use Rattle.table.specs.Tables.{table_answer}
+use Rattle.table.specs.Tables.{table_answer, filled}
 use Rattle.search.specs.Searches.{made_of}
 use Rattle.cubes.specs.declared.entry.Entry.{Entry}
-use Rattle.jobs.specs.Afterwards.{after, after_reading, rows_register, decided_register, register_after}
+use Rattle.jobs.specs.Afterwards.{after, after_reading, rows_register, decided_register, register_after, tabulated}
 use Rattle.jobs.specs.Lists.{Outcome, Room, go_on, at_reading, rows_text, decided_text, making_of, circuit_text, list_of}
 
 -- a decider has the circuit's inputs and solutions where its making went well
@@ -35,6 +35,10 @@ module _ (room : Room) (c : Netlist) where
 
   pub many_making : max_table_inputs < c.inputs → made_of c room.signals ≡ making_of room c
   many_making many = sym (cond-false (leb c.inputs max_table_inputs) _ _ (lt-leb c.inputs max_table_inputs many))
+
+  -- and no table is made for many
+  pub no_table : max_table_inputs < c.inputs → (words : ℕ) (bits : List ℕ) → tabulated c words bits ≡ bits
+  no_table many words bits = ap (λ (a : Result (Unit {0}) TableFault). after bits a (λ _. filled c.inputs (solves c) bits)) (cond-true (ltb max_table_inputs c.inputs) _ _ (lt-ltb max_table_inputs c.inputs many))
 
 -- ---- and the circuit is the file's
 

@@ -1,15 +1,16 @@
 -- The work memory after a job.
---   asked   the table decider for few inputs, the search decider for many; none where the reading is refused
---   made    a table is, where there are few inputs and room enough
+--   made   a decider is, where there is room enough for it: a table for few inputs, a search for many; none where the
+--          reading is refused
 -- Assumes nothing.
-use Rattle.std.specs.Prelude.{ℕ, Bool, false, not, List, is_ok, Ok, Err, Result, nat_le}
+use Rattle.std.specs.Prelude.{ℕ, Bool, false, not, ◌&&◌, List, length, is_ok, Ok, Err, Result, nat_le}
 use Rattle.faults.specs.declared.table.TableFault.{TableFault}
 use Rattle.circuit.specs.Circuits.{Netlist, taken_up}
 use Rattle.circuit.specs.Limits.{max_table_inputs}
 use Rattle.circuit.specs.Solutions.{solves}
 use Rattle.aiger.specs.Reads.{read_of}
 use Rattle.cubes.specs.declared.entry.Entry.{Entry}
-use Rattle.table.specs.Tables.{table_answer}
+use Rattle.table.specs.Tables.{table_answer, filled}
+use Rattle.search.specs.Searches.{made_of}
 use Rattle.listing.specs.Calls.{opened, begun}
 use Rattle.jobs.specs.Lists.{Room, most_nexts, run_of, making_of}
 
@@ -36,13 +37,18 @@ decided_register made mode c register = after register made (λ _. rows_register
 abbrev pub register_after : List ℕ → ℕ → Room → List Entry → List Entry
 register_after file mode room register = after_reading register file room (λ c. decided_register (making_of room c) mode c register)
 
--- ---- the deciders
+-- ---- the bits: the table where one is made, else as they were
 
-abbrev pub table_asked : List ℕ → Room → Bool
-table_asked file room = after_reading false file room (λ c. nat_le c.inputs max_table_inputs)
+abbrev pub tabulated : Netlist → ℕ → List ℕ → List ℕ
+tabulated c words bits = after bits (table_answer c (length bits) words) (λ _. filled c.inputs (solves c) bits)
+
+abbrev pub bits_after : List ℕ → Room → List ℕ → List ℕ
+bits_after file room bits = after_reading bits file room (λ c. tabulated c room.words bits)
+
+-- ---- the deciders that are made
 
 abbrev pub table_made : List ℕ → Room → Bool
 table_made file room = after_reading false file room (λ c. is_ok (table_answer c room.bits room.words))
 
-abbrev pub search_asked : List ℕ → Room → Bool
-search_asked file room = after_reading false file room (λ c. not (nat_le c.inputs max_table_inputs))
+abbrev pub search_made : List ℕ → Room → Bool
+search_made file room = after_reading false file room (λ c. not (nat_le c.inputs max_table_inputs) && is_ok (made_of c room.signals))

@@ -47,14 +47,13 @@ impl<'a> Table<'a> {
     pub fn over(circuit: &Circuit, bits: &'a [u32]) -> Table<'a>
         ensures bits { result.bits.now ≡ bits.now }
         ensures inputs { result.inputs ≡ (if stands circuit.now.inputs (length bits.now) then circuit.now.inputs else 0) }
-        ensures rows { result.inputs ≡ circuit.now.inputs → (ws : List ℕ) → bits.now ≡ filled circuit.now.inputs (solves (netlist circuit.now)) ws → rows_of result.inputs bits.now ≡ solves (netlist circuit.now) }
+        ensures rows { result.inputs ≡ circuit.now.inputs → (ws : List ℕ) → bits.now ≡ filled circuit.now.inputs (solves (netlist circuit.now)) ws → rows_of result.inputs result.bits.now ≡ solves (netlist circuit.now) }
     {
         let inputs = circuit.inputs();
-        if inputs <= MAX_TABLE_INPUTS && circuit.word_count() as usize <= bits.len() {
-            Table { inputs, bits }
-        } else {
-            Table { inputs: 0, bits }
+        if inputs > MAX_TABLE_INPUTS || (circuit.word_count() as usize) > bits.len() {
+            return Table { inputs: 0, bits };
         }
+        Table { inputs, bits }
     }
 }
 

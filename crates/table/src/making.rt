@@ -48,11 +48,7 @@ fn fill(circuit: &Circuit, bits: &mut [u32], values: &mut [Word])
 
 // Writes the table of the circuit's solutions into `bits`. A refusal alters nothing; else what the value table holds
 // afterwards is free.
-pub fn tabulate(
-    circuit: &Circuit,
-    bits: &mut [u32],
-    values: &mut [Word],
-) -> Result<(), TableFault>
+pub fn tabulate(circuit: &Circuit, bits: &mut [u32], values: &mut [Word]) -> Result<(), TableFault>
     ensures answer { result ≡ table_answer (netlist circuit.now) (length bits.old) (length values.old) }
     ensures words { bits.new ≡ (if is_ok result then filled circuit.now.inputs (solves (netlist circuit.now)) bits.old else bits.old) }
     ensures values { is_ok result ≡ false → values.new ≡ values.old }

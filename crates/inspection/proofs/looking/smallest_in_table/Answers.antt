@@ -1,12 +1,21 @@
-use Rattle.std.proofs.Common.{◌≤◌}
+use Rattle.std.proofs.Common.{◌≡◌, refl, ◌≤◌, length, true≢false, is_ok, Ok, ap, ◌∙◌, rules}
 use Rattle.circuit.specs.Netlists.{netlist}
+use Rattle.circuit.specs.Solutions.{solves}
 use Rattle.listing.specs.Limits.{max_inputs}
+use Rattle.table.specs.Tables.{table_answer, filled}
 use Rattle.inspection.proofs.Smallest.{smallest_by_lem}
 use Rattle.inspection.proofs.looking.smallest_in_table.Goals as goal
 
-pub returns-clause-value : goal.returns-clause-value
-returns-clause-value c =
-    let circuit = c.args.circuit.now in
-    let few : circuit.inputs ≤ max_inputs = circuit.ranged.1 in
-    let e = c.make-made.ensures in
-    smallest_by_lem c.make-made.result.1 _ (netlist circuit) _ _ _ few e.answer c.in_ok-made.was e.inputs e.rows c.smallest.ensures
+pub returns : goal.returns
+returns c =
+    let circuit = netlist c.args.circuit.now in
+    let few : circuit.inputs ≤ max_inputs = c.args.circuit.now.ranged.1 in
+    let went : Ok tt ≡ table_answer circuit (length c.args.bits.now) (length c.args.words.now) = search rules in
+    let same : c.over.result.inputs ≡ circuit.inputs = search rules in
+    let written : c.tabulate.new.bits ≡ filled circuit.inputs (solves circuit) c.args.bits.now = search rules in
+    let rows = c.over.ensures.rows same c.args.bits.now written in
+    record {
+      value = smallest_by_lem (Ok tt) _ circuit _ _ _ few went refl same rows c.smallest.ensures;
+      bits = search rules;
+      words = λ no. absurd (true≢false (ap is_ok went ∙ no));
+    }

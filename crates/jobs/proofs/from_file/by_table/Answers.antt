@@ -1,16 +1,20 @@
-use Rattle.std.proofs.Common.{◌≡◌, Ok, rules}
+use Rattle.std.proofs.Common.{◌≡◌, refl, length, true≢false, is_ok, Ok, ap, ◌∙◌, rules}
 use Rattle.circuit.specs.Netlists.{netlist}
+use Rattle.circuit.specs.Solutions.{solves}
+use Rattle.table.specs.Tables.{table_answer, filled}
 use Rattle.jobs.proofs.Stages.{decided_text_lem, decided_register_lem}
 use Rattle.jobs.proofs.from_file.by_table.Goals as goal
 
-pub returns-clause-value : goal.returns-clause-value
-returns-clause-value c =
-    let e = c.make-made.ensures in
-    let went : c.make-made.result.1 ≡ Ok tt = search rules in
-    decided_text_lem c.args.mode (netlist c.args.circuit.now) c.args.register.now _ _ _ _ e.answer went e.inputs e.rows c.args.text.now _ c.print_list.ensures.value
-
-pub returns-clause-register : goal.returns-clause-register
-returns-clause-register c =
-    let e = c.make-made.ensures in
-    let went : c.make-made.result.1 ≡ Ok tt = search rules in
-    decided_register_lem c.args.mode (netlist c.args.circuit.now) c.args.register.now _ _ _ _ e.answer went e.inputs e.rows _ c.print_list.ensures.register
+pub returns : goal.returns
+returns c =
+    let circuit = netlist c.args.circuit.now in
+    let went : Ok tt ≡ table_answer circuit (length c.args.bits.now) (length c.args.words.now) = search rules in
+    let same : c.over.result.inputs ≡ circuit.inputs = search rules in
+    let written : c.tabulate.new.bits ≡ filled circuit.inputs (solves circuit) c.args.bits.now = search rules in
+    let rows = c.over.ensures.rows same c.args.bits.now written in
+    record {
+      value = decided_text_lem c.args.mode circuit c.args.register.now (Ok tt) _ _ _ went refl same rows c.args.text.now _ c.print_list.ensures.value;
+      register = decided_register_lem c.args.mode circuit c.args.register.now (Ok tt) _ _ _ went refl same rows _ c.print_list.ensures.register;
+      bits = search rules;
+      words = λ no. absurd (true≢false (ap is_ok went ∙ no));
+    }

@@ -1,10 +1,12 @@
-use Rattle.std.proofs.Common.{◌<◌, ◌≤◌, false, not, leb, ap, ◌∙◌, arith}
-use Rattle.std.proofs.lemmas.Bool.{both_ways, lt-leb}
+use Rattle.std.proofs.Common.{◌<◌, ◌≤◌, false, not, ◌&&◌, leb, is_ok, sym, ap, ◌∙◌, arith}
+use Rattle.std.proofs.lemmas.Bool.{lt-leb}
 use Rattle.circuit.specs.Netlists.{netlist}
 use Rattle.circuit.specs.Limits.{max_table_inputs}
+use Rattle.search.specs.Searches.{made_of}
+use Rattle.jobs.specs.Afterwards.{tabulated}
 use Rattle.jobs.specs.Lists.{room_of}
 use Rattle.jobs.proofs.Compare.{compared}
-use Rattle.jobs.proofs.Stages.{few_making, many_making, file_text, file_register, file_after}
+use Rattle.jobs.proofs.Stages.{few_making, many_making, file_text, no_table, file_register, file_after}
 use Rattle.jobs.proofs.Tellings.{fits, told}
 use Rattle.jobs.proofs.from_file.list.Goals as goal
 
@@ -61,9 +63,21 @@ returns-clause-register c =
     let many : max_table_inputs < circuit.inputs = omega (arith, c.inputs.ensures, c.if-inputs-le-MAX_TABLE_INPUTS.false) in
     file_register room circuit c.args.file.now _ c.in_ok-reading.reading c.in_ok-reading.ensures.value c.take_up-circuit.ensures c.args.mode c.args.register.now _ (many_making room circuit many) _ c.by_search.ensures.register
 
+pub returns-clause-bits : goal.returns-clause-bits
+returns-clause-bits c =
+    let room = room_of c.args.workspace in
+    let circuit = netlist c.take_up-circuit.result in
+    let many : max_table_inputs < circuit.inputs = omega (arith, c.inputs.ensures, c.if-inputs-le-MAX_TABLE_INPUTS.false) in
+    let bits = c.args.workspace.bits.now in
+    sym (no_table room circuit many room.words bits)
+    ∙ file_after room circuit c.args.file.now _ c.in_ok-reading.reading c.in_ok-reading.ensures.value c.take_up-circuit.ensures bits (λ d. tabulated d room.words bits)
+
 pub returns-clause-signals : goal.returns-clause-signals
 returns-clause-signals c =
     let room = room_of c.args.workspace in
     let circuit = netlist c.take_up-circuit.result in
     let many : max_table_inputs < circuit.inputs = omega (arith, c.inputs.ensures, c.if-inputs-le-MAX_TABLE_INPUTS.false) in
-    λ no. absurd (both_ways (not (leb circuit.inputs max_table_inputs)) (file_after room circuit c.args.file.now _ c.in_ok-reading.reading c.in_ok-reading.ensures.value c.take_up-circuit.ensures false (λ d. not (leb d.inputs max_table_inputs)) ∙ no) (ap not (lt-leb circuit.inputs max_table_inputs many)))
+    let made = is_ok (made_of circuit room.signals) in
+    λ no. c.by_search.ensures.signals
+    (sym (ap (λ few. not few && made) (lt-leb circuit.inputs max_table_inputs many))
+    ∙ file_after room circuit c.args.file.now _ c.in_ok-reading.reading c.in_ok-reading.ensures.value c.take_up-circuit.ensures false (λ d. not (leb d.inputs max_table_inputs) && is_ok (made_of d room.signals)) ∙ no)
