@@ -7,5 +7,6 @@ pub mod Lanes
 pub mod Packed
 pub mod WordRows
 pub mod Counts
+pub mod WordTables
 pub mod Consistent
 pub mod Inverted

@@ -136,6 +136,10 @@ numbers_count (suc more) bs p r e =
 abbrev none : List ℕ
 none = replicate 5 0
 
+-- what is made of a line that the machine read
+pub line_read : {X : Type 0} (bs : List ℕ) (m m' : LineMachine) (r : Line) (f : List ℕ × ℕ → Result X TextFault) → r ≡ run bs m → m ≡ m' → next r f ≡ next (run bs m') f
+line_read bs m m' r f read same = ap (λ x. next x f) (read ∙ ap (run bs) same)
+
 abbrev pub value_in : List ℕ × ℕ → Result (ℕ × ℕ) TextFault
 value_in l = Ok (get_or l.0 4 0, l.1)
 
