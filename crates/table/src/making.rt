@@ -4,7 +4,7 @@ ghost use Rattle.circuit.specs.Netlists.{netlist};
 ghost use Rattle.circuit.specs.Circuits.{highest};
 ghost use Rattle.circuit.specs.Lanes.{words};
 ghost use Rattle.circuit.specs.Solutions.{solves};
-ghost use Rattle.table.specs.Tables.{table_answer, word_of, filled, stands};
+ghost use Rattle.table.specs.Tables.{table_answer, word_of, filled, rows_of, stands};
 
 use circuit::{Circuit, MAX_TABLE_INPUTS, Word, solve_word, used_lanes};
 use faults::TableFault;
@@ -46,13 +46,14 @@ fn fill(circuit: &Circuit, bits: &mut [u32], values: &mut [Word])
     }
 }
 
-// Writes the table of the circuit's solutions into `bits`. A refusal alters nothing; else what the value table holds
-// afterwards is free.
+// Writes the table of the circuit's solutions into `bits`, which then mean just these rows. A refusal alters nothing; else
+// what the value table holds afterwards is free.
 pub fn tabulate(circuit: &Circuit, bits: &mut [u32], values: &mut [Word]) -> Result<(), TableFault>
     ensures answer { result ≡ table_answer (netlist circuit.now) (length bits.old) (length values.old) }
     ensures words { bits.new ≡ (if is_ok result then filled circuit.now.inputs (solves (netlist circuit.now)) bits.old else bits.old) }
     ensures values { is_ok result ≡ false → values.new ≡ values.old }
-    ensures stands { OnOk result (stands circuit.now.inputs (length bits.old) ≡ true) }
+    ensures stands { OnOk result (stands circuit.now.inputs (length bits.new) ≡ true) }
+    ensures rows { OnOk result (rows_of circuit.now.inputs bits.new ≡ solves (netlist circuit.now)) }
 {
     room(circuit, bits.len(), values.len())?;
     fill(circuit, bits, values);

@@ -1,7 +1,7 @@
 use Rattle.std.proofs.Common.{arith}
 use Rattle.circuit.specs.Netlists.{netlist}
 use Rattle.table.proofs.Made.{made_rows}
-use Rattle.table.proofs.decider.Table.over.Goals as goal
+use Rattle.table.proofs.making.tabulate.Goals as goal
 
 pub returns-clause-rows : goal.returns-clause-rows
-returns-clause-rows c = λ same ws is. made_rows (netlist c.args.circuit.now) ws _ _ (omega arith) same is
+returns-clause-rows c = made_rows (netlist c.args.circuit.now) c.args.bits.now _ (omega arith) c.fill.ensures
