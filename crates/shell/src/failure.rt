@@ -1,6 +1,8 @@
 // Why a program ends with status 1.
-ghost use Rattle.std.specs.Prelude.{◌≡◌, false, is_ok, if◌then◌else◌};
+ghost use Rattle.std.specs.Prelude.{◌≡◌, false, Some, Err, is_ok, if◌then◌else◌};
 ghost use Rattle.std.specs.Process.{exit_status};
+ghost use Rattle.shell.specs.declared.failure.Failure.TheVariants.{Refused, Memory, Stream};
+ghost use Rattle.shell.specs.Failures.{failure_text, OrStream};
 
 use faults::JobFault;
 use std::alloc::AllocError;
@@ -20,18 +22,24 @@ pub enum Failure {
 }
 
 impl From<AllocError> for Failure {
+    ghost from_gives = { λ _ failure. failure ≡ Memory };
+
     fn from(_e: AllocError) -> Failure {
         Failure::Memory
     }
 }
 
 impl From<io::Error> for Failure {
+    ghost from_gives = { λ _ failure. failure ≡ Stream };
+
     fn from(_e: io::Error) -> Failure {
         Failure::Stream
     }
 }
 
 impl fmt::Display for Failure {
+    ghost output = { λ failure. Some (failure_text failure) };
+
     fn fmt<W: fmt::Write>(&self, f: &mut fmt::Formatter<W>) -> fmt::Result {
         f.write_str(match self {
             Failure::Usage =>
@@ -45,7 +53,8 @@ impl fmt::Display for Failure {
 
 // Prints a refusal, with which the program fails.
 pub fn refuse(rt: &HostRuntime, fault: JobFault) -> Result<(), Failure>
-    ensures { is_ok result ≡ false }
+    ensures refused { is_ok result ≡ false }
+    ensures failure { OrStream result (Err Refused) }
 {
     println!(rt; "{fault}")?;
     Err(Failure::Refused)
@@ -53,7 +62,8 @@ pub fn refuse(rt: &HostRuntime, fault: JobFault) -> Result<(), Failure>
 
 // Says on standard error why a program fails, and hands the result on. A refusal is printed already.
 pub fn explain(rt: &HostRuntime, res: Result<(), Failure>) -> Result<(), Failure>
-    ensures { is_ok result ≡ is_ok res }
+    ensures success { is_ok result ≡ is_ok res }
+    ensures failure { OrStream result res }
 {
     match res {
         Ok(()) | Err(Failure::Refused) => {}

@@ -2,7 +2,7 @@
 ghost use Rattle.std.specs.Prelude.{◌≡◌, IfOk};
 ghost use Rattle.jobs.specs.Lists.{room_of};
 ghost use Rattle.jobs.specs.Sizes.{enough};
-ghost use Rattle.shell.specs.Memories.{room_in};
+ghost use Rattle.shell.specs.Memories.{room_in, Blank, Lends};
 
 use circuit::{Ternary, Word};
 use jobs::{BIT_WORDS, GATE_WORDS, PLACES, Workspace};
@@ -19,7 +19,8 @@ pub struct Memory {
 impl Memory {
     // Enough for every circuit within the limits.
     pub fn new(heap: Global) -> Result<Memory, AllocError>
-        ensures { IfOk result (λ memory. room_in memory ≡ enough) }
+        ensures room { IfOk result (λ memory. room_in memory ≡ enough) }
+        ensures blank { IfOk result Blank }
     {
         Ok(Memory {
             gate_table: vec![in heap; 0u32; GATE_WORDS]?,
@@ -30,7 +31,8 @@ impl Memory {
     }
 
     pub fn lend(&mut self) -> Workspace<'_>
-        ensures { room_of result ≡ room_in self.old }
+        ensures room { room_of result ≡ room_in self.old }
+        ensures lent { Lends self.old result }
     {
         Workspace {
             gate_table: self.gate_table.as_mut_slice(),

@@ -15,7 +15,7 @@ allocated file mode r register text o roomy entries bytes e = rw (e, roomy, entr
 
 pub returns-in-Ok : goal.returns-in-Ok
 returns-in-Ok c =
-    let roomy : room_of c.lend.result ≡ enough = c.lend.ensures ∙ c.in_ok-memory.ensures in
+    let roomy : room_of c.lend.result ≡ enough = c.lend.ensures.room ∙ c.in_ok-memory.ensures.room in
     let register = c.as_mut_slice.ensures.value ∙ c.in_ok-register.ensures.items_if_clones_equal (λ y same. same) in
     let bytes = c.as_mut_slice-2.ensures.value ∙ c.in_ok-text.ensures.items_if_clones_equal (λ y same. same) in
     let long : length c.list.new.text ≡ c.in_ok-text.text.len = search rules in
@@ -32,7 +32,7 @@ pub returns : goal.returns
 returns c =
     let register = c.as_mut_slice.ensures.value ∙ c.in_ok-register.ensures.items_if_clones_equal (λ y same. same) in
     let bytes = c.as_mut_slice-2.ensures.value ∙ c.in_ok-text.ensures.items_if_clones_equal (λ y same. same) in
-    let job = allocated c.args.file.now c.args.mode _ _ _ _ (c.lend.ensures ∙ c.in_ok-memory.ensures) register bytes c.in-Err.ensures.value in
+    let job = allocated c.args.file.now c.args.mode _ _ _ _ (c.lend.ensures.room ∙ c.in_ok-memory.ensures.room) register bytes c.in-Err.ensures.value in
     record {
       said =
           record {
