@@ -1,7 +1,9 @@
 // Prints a circuit's numbers, how many solutions it has and the smallest of them.
 #![tactic(auto)]
 
-ghost use Rattle.std.specs.Prelude.{◌≡◌, false, is_ok};
+ghost use Rattle.std.specs.Prelude.{◌≡◌, false, is_ok, IfOk};
+ghost use Rattle.inspection.specs.Inspections.{inspected};
+ghost use Rattle.jobs.specs.Sizes.{enough};
 
 use faults::JobFault;
 use inspection::{Summary, row_text};
@@ -10,7 +12,9 @@ use std::alloc::{AllocError, Global};
 use std::process::ExitCode;
 
 // A look at the file, with memory of its own.
-fn look(heap: Global, file: &[u8]) -> Result<Result<Summary, JobFault>, AllocError> {
+fn look(heap: Global, file: &[u8]) -> Result<Result<Summary, JobFault>, AllocError>
+    ensures { IfOk result (λ answer. answer ≡ inspected file.now enough) }
+{
     let mut memory = Memory::new(heap)?;
     Ok(inspection::inspect(file, memory.lend()))
 }
