@@ -1,11 +1,11 @@
 -- The widest cube around a row of a set: it holds the row, only rows of the set, and cannot be opened further.
-use Rattle.std.proofs.Common.{◌≡◌, ℕ, suc, ◌-◌, ◌*◌, ◌/◌, ◌%◌, ◌^◌, ◌<◌, Bool, true, false, not, ◌&&◌, sym, ap, ◌∙◌, mod-eq_of_lt, arith}
+use Rattle.std.proofs.Common.{◌≡◌, ℕ, suc, ◌-◌, ◌*◌, ◌/◌, ◌%◌, ◌^◌, ◌<◌, Bool, true, false, not, ◌&&◌, sym, ap, ◌∙◌, mod-eq_of_lt, arith, is_none}
 use mathlib.Core.Path.{fun_ext}
 use lib.Bits.{bit_and, and_mask, and_le_r}
 use Rattle.std.proofs.lemmas.Bool.Decides.{nat_tests}
 use Rattle.cubes.specs.Cubes.{holds}
 use Rattle.cubes.proofs.Bits.{and_assoc}
-use Rattle.listing.specs.Widest.{without, is_none, good, rest, widened, good_around, widest}
+use Rattle.listing.specs.Widest.{without, good, rest, widened, good_around, widest}
 use Rattle.listing.proofs.Least.{least_cong, none_all, none_not, none_from, some_from}
 use Rattle.listing.proofs.Cares.{agree, opened_inside, opened_inside_rest}
 use Rattle.listing.proofs.Settled.{widened_fits, widened_below, widened_fixed}

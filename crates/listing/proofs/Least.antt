@@ -1,8 +1,9 @@
 -- The smallest number that passes a test: what `least` gives, as a relation.
-use Rattle.std.proofs.Common.{◌≡◌, ℕ, zero, suc, ◌<◌, Bool, true, false, cond, Some, None, Option, refl, ap, subst, ap₂, arith}
+use Rattle.std.proofs.Common.{◌≡◌, ℕ, zero, suc, ◌<◌, Bool, true, false, cond, Some, None, Option, refl, ap, subst, ap₂, arith, is_none}
+use Rattle.std.specs.Option.{option_or}
 use Rattle.std.specs.Bool.{MatchBool}
 use Rattle.std.proofs.lemmas.Bool.{MatchBool-at_true, MatchBool-at_false, both_ways, false_from_ne_true}
-use Rattle.listing.specs.Widest.{least, or_else, is_none}
+use Rattle.listing.specs.Widest.{least}
 
 pub record Least (P : ℕ → Bool) (k r : ℕ) : Type 0 where
   pub below : r < k
@@ -13,7 +14,7 @@ abbrev pub Found : (ℕ → Bool) → ℕ → Option ℕ → Type 0
 Found P k (Some r) = Least P k r
 Found P k None = (s : ℕ) → s < k → P s ≡ false
 
-step : (P : ℕ → Bool) (k : ℕ) (o : Option ℕ) (t : Bool) → P k ≡ t → Found P k o → Found P (suc k) (or_else o (cond t (Some k) None))
+step : (P : ℕ → Bool) (k : ℕ) (o : Option ℕ) (t : Bool) → P k ≡ t → Found P k o → Found P (suc k) (option_or o (cond t (Some k) None))
 step P k (Some r) t e f = record { below = let h = f.below in omega arith; passes = f.passes; first = f.first }
 step P k None true e f = record { below = omega arith; passes = e; first = f }
 step P k None false e f = λ s h. grind (arith, f s)
@@ -43,7 +44,7 @@ pub least_cong : (P Q : ℕ → Bool) (k : ℕ) → ((r : ℕ) → r < k → P r
 unfolding least
 least_cong P Q zero h = refl
 least_cong P Q (suc k) h =
-    ap₂ (λ (o : Option ℕ) (t : Bool). or_else o (cond t (Some k) None)) (least_cong P Q k (λ r l. h r (omega arith))) (h k (omega arith))
+    ap₂ (λ (o : Option ℕ) (t : Bool). option_or o (cond t (Some k) None)) (least_cong P Q k (λ r l. h r (omega arith))) (h k (omega arith))
 
 -- ---- whether any number passes
 

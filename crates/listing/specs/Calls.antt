@@ -40,11 +40,6 @@ arity_of n =
       | no _ ↦ None
     ]
 
--- what a conversion answers: the value, or the fault where there is none
-abbrev pub or_fault : {X : Type 0} → Option X → ListingFault → Result X ListingFault
-or_fault (Some x) fault = Ok x
-or_fault None fault = Err fault
-
 abbrev pub drafted : Option Mode → Option Arity → Result Draft ListingFault
 drafted None arity = Err ModeFault
 drafted (Some mode) None = Err InputCount

@@ -9,7 +9,8 @@
 -- around a row: the cube that fixes the inputs of a care to the row's bits, so that its value is `bit_and row care`
 -- widest: the care of the row alone, with inputs 1 to n in turn opened wherever the cube around the row stays good
 -- Settled: what the widest care is, without those steps
-use Rattle.std.specs.Prelude.{◌≡◌, ℕ, zero, suc, ◌+◌, ◌-◌, ◌*◌, ◌/◌, ◌%◌, ◌^◌, ◌<◌, Bool, true, false, cond, not, ◌&&◌, Some, None, Option, bit_and}
+use Rattle.std.specs.Prelude.{◌≡◌, ℕ, zero, suc, ◌+◌, ◌-◌, ◌*◌, ◌/◌, ◌%◌, ◌^◌, ◌<◌, Bool, cond, not, ◌&&◌, Some, None, Option, bit_and, is_none}
+use Rattle.std.specs.Option.{option_or}
 use Rattle.cubes.specs.Cubes.{holds}
 
 abbrev pub without : (ℕ → Bool) → (ℕ → Bool) → ℕ → Bool
@@ -17,17 +18,9 @@ without set other row = set row && not (other row)
 
 -- ---- the smallest number below a bound that passes a test
 
-abbrev pub or_else : Option ℕ → Option ℕ → Option ℕ
-or_else (Some row) other = Some row
-or_else None other = other
-
 unfoldable pub least : (ℕ → Bool) → ℕ → Option ℕ
 least test zero = None
-least test (suc bound) = or_else (least test bound) (cond (test bound) (Some bound) None)
-
-abbrev pub is_none : Option ℕ → Bool
-is_none (Some row) = false
-is_none None = true
+least test (suc bound) = option_or (least test bound) (cond (test bound) (Some bound) None)
 
 -- ---- leads and cubes
 

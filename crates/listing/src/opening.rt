@@ -1,7 +1,7 @@
 // The modes and the numbers of inputs that open takes.
-ghost use Rattle.std.specs.Prelude.{◌≡◌};
+ghost use Rattle.std.specs.Prelude.{◌≡◌, ok_or};
 ghost use Rattle.faults.specs.declared.listing.ListingFault.TheVariants.{Mode as ModeFault, InputCount};
-ghost use Rattle.listing.specs.Calls.{mode_of, arity_of, or_fault};
+ghost use Rattle.listing.specs.Calls.{mode_of, arity_of};
 
 use crate::arity::Arity;
 use crate::mode::Mode;
@@ -11,7 +11,7 @@ use faults::ListingFault;
 impl TryFrom<u32> for Mode {
     type Error = ListingFault;
 
-    ghost try_from_gives = { λ number r. r ≡ or_fault (mode_of number) ModeFault };
+    ghost try_from_gives = { λ number r. r ≡ ok_or (mode_of number) ModeFault };
 
     fn try_from(number: u32) -> Result<Mode, ListingFault> {
         match number {
@@ -25,7 +25,7 @@ impl TryFrom<u32> for Mode {
 impl TryFrom<u32> for Arity {
     type Error = ListingFault;
 
-    ghost try_from_gives = { λ inputs r. r ≡ or_fault (arity_of inputs) InputCount };
+    ghost try_from_gives = { λ inputs r. r ≡ ok_or (arity_of inputs) InputCount };
 
     fn try_from(inputs: u32) -> Result<Arity, ListingFault> {
         if inputs < 1 || inputs > MAX_INPUTS {

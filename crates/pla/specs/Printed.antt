@@ -2,7 +2,8 @@
 --   register   entries that the call is lent: the waivers of the listing first, then its list
 --   memory     bytes that the call is lent for the text
 -- Assumes nothing.
-use Rattle.std.specs.Prelude.{ℕ, cond, List, length, Ok, Err, Result, nat_lt}
+use Rattle.std.specs.Prelude.{ℕ, cond, List, length, Err, Result, nat_lt}
+use Rattle.std.specs.Result.{result_map_both}
 use Rattle.faults.specs.declared.job.Fault.{Fault}
 use Rattle.faults.specs.declared.job.Fault.TheVariants.{Listing, Table}
 use Rattle.faults.specs.declared.listing.ListingFault.TheVariants.{RegisterShort}
@@ -14,8 +15,7 @@ use Rattle.pla.specs.Text.{written}
 
 -- a fault of the table layer as any fault
 abbrev pub carried : Result ℕ TableFault → Result ℕ Fault
-carried (Ok place) = Ok place
-carried (Err fault) = Err (Table fault)
+carried r = result_map_both (λ length. length) Table r
 
 -- a register shorter than the entries held is refused first, then a memory too short for the text
 abbrev pub printed : Finished → List Entry → List ℕ → Result ℕ Fault × List ℕ
