@@ -41,6 +41,8 @@ impl Value for Bit {
 
     ghost flips = { Prim.search rules };
 
+    ghost exact = { Prim.search rules };
+
     ghost commutes = { Prim.search rules };
 
     ghost stays = { Prim.search rules };

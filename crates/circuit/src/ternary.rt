@@ -28,6 +28,8 @@ impl Value for Ternary {
 
     ghost flips = { Prim.search rules };
 
+    ghost exact = { Prim.search rules };
+
     ghost commutes = { Prim.search rules };
 
     ghost stays = { Prim.search rules };

@@ -42,7 +42,7 @@ SameRows n care value care' value' = (row : ℕ) → row < 2 ^ n → within care
 abbrev pub fixes_all : ℕ → ℕ → ℕ → Bool
 fixes_all n care barred = bit_and (bit_and barred (2 ^ n - 1)) care == bit_and barred (2 ^ n - 1)
 
--- the entries hold no row of the branch, or all of them; where they hold some, the branch has more than one
+-- of the branch's rows the entries hold none (Free) or all (Whole); what is left open (Part) is a branch of more than one row
 abbrev pub Barred : ℕ → ℕ → ℕ → List Entry → Barring → Type 0
 Barred n care value entries Free = Each n care value (λ row. held entries row ≡ false)
 Barred n care value entries (Part e) = Single n care → ⊥
