@@ -1,2 +1,4 @@
 mod Rows
 mod Smallest
+mod Circuits
+mod Seen
