@@ -1,14 +1,12 @@
 -- An accepted look has told of the file's circuit. Assumes nothing.
-use Rattle.std.proofs.Common.{◌≡◌, ℕ, ◌^◌, ◌/◌, Bool, true, false, cond, leb, List, length, IfOk, Some, None, Ok, Err, Option, Result, refl, sym, ap, ap₂, ltb, ◌+◌, ◌∙◌, subst, arith}
-use Rattle.faults.specs.declared.job.JobFault.{JobFault}
+use Rattle.std.proofs.Common.{◌≡◌, ℕ, ◌^◌, Bool, true, false, cond, leb, ltb, List, Some, None, Ok, Err, Option, Result, sym, refl, ap, ◌∙◌, subst, ap₂, arith}
 use Rattle.faults.specs.declared.table.TableFault.{TableFault}
-use Rattle.faults.specs.declared.table.TableFault.TheVariants.{TooManyInputs, ValuesShort}
 use Rattle.circuit.specs.declared.reading.Reading.{Reading}
 use Rattle.circuit.specs.Circuits.{Netlist, highest, taken_up}
-use Rattle.circuit.specs.Answers.{with_room}
 use Rattle.circuit.specs.Counts.{counted}
 use Rattle.circuit.specs.Limits.{max_table_inputs}
 use Rattle.circuit.specs.Solutions.{solves, solution_count}
+use Rattle.aiger.specs.Grammar.{Written}
 use Rattle.aiger.specs.Reads.{Answer, read_of}
 use Rattle.text.proofs.Answers.{ok_same, after_test, in_test}
 use Rattle.aiger.proofs.Carried.{up_ok}
@@ -39,8 +37,8 @@ module _ (c : Netlist) where
 
   count_is : (words n : ℕ) → counted c words ≡ Ok n → n ≡ solution_count c
   count_is words n e =
-      let few = after_test (ltb max_table_inputs c.inputs) (with_room c words (solution_count c)) n (TooManyInputs c.inputs) e in
-      let roomy = in_test (ltb (highest c) words) (Ok (solution_count c)) n (ValuesShort (highest c + 1)) few.1 in
+      let few = after_test (ltb max_table_inputs c.inputs) _ n _ e in
+      let roomy = in_test (ltb (highest c) words) _ n _ few.1 in
       sym (ok_same (solution_count c) n roomy.1)
 
   counted_told : (bits words : ℕ) (s : Summary) → counted_summary c bits words ≡ Ok s → s ≡ told (Some (solution_count c))
@@ -60,32 +58,38 @@ module _ (c : Netlist) where
   circuit_told true bits words signals s e = counted_told bits words s e
   circuit_told false bits words signals s e = searched_told signals s e
 
--- ---- of the file's circuit
+-- ---- of a written circuit, which is what is read
+
+module _ (file : List ℕ) (words : ℕ) (r : Reading) (gates : List (ℕ × ℕ)) (w : Written file words r gates) where
+  abbrev c : Netlist
+  c = circuit_of r gates
+
+  seen_written : (s : Summary) → s ≡ told c (cond (leb c.inputs max_table_inputs) (Some (solution_count c)) None) → Seen file words s
+  seen_written s e =
+      let same : s.smallest ≡ lead c.inputs (solves c) = ap (λ (t : Summary). t.smallest) e in
+      record {
+        reading = r;
+        gates = gates;
+        circuit = w;
+        inputs = ap (λ (t : Summary). t.inputs) e;
+        gate_count = omega (arith, words_length gates, ap (λ (t : Summary). t.gates) e);
+        output = ap (λ (t : Summary). t.output) e;
+        solutions = ap (λ (t : Summary). t.solutions) e;
+        smallest = smallest_is c s.smallest (subst (Found (solves c) (2 ^ c.inputs)) (sym same) (found (solves c) (2 ^ c.inputs)));
+      }
 
 module _ (file : List ℕ) (room : Room) where
-  seen_file : (s : Summary) → inspected file room ≡ Ok s → Seen file room.gate_table s
-  seen_file s e =
+  abbrev looked : Netlist → Result Summary TableFault
+  looked c = circuit_summary c room.bits room.words room.signals
+
+  pub seen : (s : Summary) → Ok s ≡ inspected file room → Seen file room.gate_table s
+  seen s e =
       let a : Answer = read_of file room.gate_table in
-      let reads = up_ok at_reading a.1 _ s e in
+      let reads = up_ok at_reading a.1 _ s (sym e) in
       let r : Reading = reads.0 in
-      let looks = up_ok at_deciding (circuit_summary (taken_up r a.0) room.bits room.words room.signals) _ s reads.2 in
+      let looks = up_ok at_deciding (looked (taken_up r a.0)) _ s reads.2 in
       let w = (exact file room.gate_table a.0 a.1 refl).reads r reads.1 in
       let c : Netlist = circuit_of r w.0 in
       let same : taken_up r a.0 ≡ c = ap (taken_up r) w.2 ∙ taken_as_written file room.gate_table r w.0 w.1 in
-      let answer = ap (λ (d : Netlist). circuit_summary d room.bits room.words room.signals) (sym same) ∙ looks.1 ∙ ap Ok (ok_same looks.0 s looks.2) in
-      let is = circuit_told c (leb c.inputs max_table_inputs) room.bits room.words room.signals s answer in
-      let half : length c.gates / 2 ≡ length w.0 = omega (arith, words_length w.0) in
-      record {
-        reading = r;
-        gates = w.0;
-        circuit = w.1;
-        inputs = ap (λ (t : Summary). t.inputs) is;
-        gate_count = ap (λ (t : Summary). t.gates) is ∙ half;
-        output = ap (λ (t : Summary). t.output) is;
-        solutions = ap (λ (t : Summary). t.solutions) is;
-        smallest = smallest_is c s.smallest (subst (Found (solves c) (2 ^ c.inputs)) (sym (ap (λ (t : Summary). t.smallest) is)) (found (solves c) (2 ^ c.inputs)));
-      }
-
-  pub seen : (o : Result Summary JobFault) → o ≡ inspected file room → IfOk o (λ s. Seen file room.gate_table s)
-  seen (Ok s) e = seen_file s (sym e)
-  seen (Err fault) e = tt
+      let answer : looked c ≡ Ok s = ap looked (sym same) ∙ looks.1 ∙ ap Ok (ok_same looks.0 s looks.2) in
+      seen_written file room.gate_table r w.0 w.1 s (circuit_told c (leb c.inputs max_table_inputs) room.bits room.words room.signals s answer)

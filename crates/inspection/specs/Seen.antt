@@ -1,5 +1,4 @@
 -- What an accepted look tells: the numbers of the file's circuit, how many solutions it has and the smallest of them.
---   C and S    the circuit and its solutions
 -- Assumes nothing.
 use Rattle.std.specs.Prelude.{◌≡◌, ℕ, ◌^◌, ◌<◌, true, false, cond, List, length, Some, None, Option, nat_le}
 use Rattle.circuit.specs.declared.reading.Reading.{Reading}
@@ -13,7 +12,7 @@ use Rattle.inspection.specs.declared.summary.Summary.{Summary}
 abbrev pub circuit_of : Reading → List (ℕ × ℕ) → Netlist
 circuit_of r gates = record { inputs = r.inputs; output = r.output; gates = gate_words gates }
 
--- a solution before which there is none, or none where no row is a solution
+-- a solution before which there is none; or none, and then no row is a solution
 abbrev pub Smallest : Netlist → Option ℕ → Type 0
 Smallest c (Some row) = (row < 2 ^ c.inputs) × (solves c row ≡ true) × ((before : ℕ) → before < row → solves c before ≡ false)
 Smallest c None = (row : ℕ) → row < 2 ^ c.inputs → solves c row ≡ false
@@ -26,6 +25,6 @@ pub record Seen (file : List ℕ) (words : ℕ) (s : Summary) : Type 0 where
   pub inputs : s.inputs ≡ reading.inputs
   pub gate_count : s.gates ≡ length gates
   pub output : s.output ≡ reading.output
-  -- they are counted where few enough inputs give the rows
+  -- how many solutions there are, up to 16 inputs
   pub solutions : s.solutions ≡ cond (nat_le reading.inputs max_table_inputs) (Some (solution_count (circuit_of reading gates))) None
   pub smallest : Smallest (circuit_of reading gates) s.smallest

@@ -106,10 +106,10 @@ fn look(
     with_search(circuit, signals)
 }
 
-// The circuit's numbers, the number of its solutions up to 16 inputs, and the smallest solution. Afterwards the gate table
-// holds what was read, and the bits the table if one is made. Left open are only the value tables of the decider that is
-// made, as after a job. The clauses name the fields of the workspace at the return by place: .0 is the gate table, .1 what
-// comes after it, and so on.
+// The numbers of the file's circuit, the number of its solutions up to 16 inputs, and the smallest solution. Afterwards the
+// gate table holds what was read, and the bits the table if one is made. Left open are only the value tables of the decider
+// that is made, as after a job. The clauses name the fields of the workspace at the return by place: .0 is the gate table,
+// .1 what comes after it, and so on.
 pub fn inspect(file: &[u8], workspace: Workspace) -> Result<Summary, JobFault>
     ensures value { result ≡ inspected file.now (room_of workspace.entry) }
     ensures seen { IfOk result (λ s. Seen file.now (length workspace.entry.gate_table.now) s) }
