@@ -5,3 +5,6 @@ mod Prints
 mod Circuits
 mod Tellings
 mod Compare
+mod GateRoom
+mod RunRoom
+mod Suffices

@@ -2,3 +2,4 @@ pub mod Lists
 pub mod Told
 pub mod Afterwards
 pub mod Sizes
+pub mod Suffices

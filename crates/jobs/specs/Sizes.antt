@@ -17,3 +17,7 @@ entry_count = 512
 
 abbrev pub blank_register : List Entry
 blank_register = replicate entry_count blank
+
+-- a line of 30 inputs for each entry, and the other lines
+abbrev pub text_bytes : ℕ
+text_bytes = entry_count * 33 + 64

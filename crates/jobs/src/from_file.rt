@@ -5,6 +5,7 @@ ghost use Rattle.table.specs.Tables.{table_answer};
 ghost use Rattle.search.specs.Searches.{made_of};
 ghost use Rattle.jobs.specs.Afterwards.{bits_after, decided_register, gates_after, register_after, search_made, table_made, tabulated};
 ghost use Rattle.jobs.specs.Lists.{decided_text, list_of, room_of};
+ghost use Rattle.jobs.specs.Suffices.{Suffices};
 ghost use Rattle.jobs.specs.Told.{TextsCompare, Told};
 
 use crate::Workspace;
@@ -71,6 +72,7 @@ pub fn list(
     ensures fits { IfOk result (λ size. size ≤ length text.new) }
     ensures told { IfOk result (λ size. Told file.now (length workspace.entry.gate_table.now) mode (take size text.new)) }
     ensures compared { TextsCompare }
+    ensures suffices { Suffices }
     ensures gates { workspace.exit.0.now ≡ gates_after file.now (room_of workspace.entry) }
     ensures bits { workspace.exit.1.0.now ≡ bits_after file.now (room_of workspace.entry) workspace.entry.bits.now }
     ensures words { table_made file.now (room_of workspace.entry) ≡ false → workspace.exit.1.1.0.now ≡ workspace.entry.words.now }

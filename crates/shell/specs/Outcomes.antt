@@ -3,16 +3,12 @@
 --   blank  text memory as it is allocated: zeros
 --   answer the text of the list, or the refusal
 -- Assumes nothing.
-use Rattle.std.specs.Prelude.{◌≡◌, ℕ, ◌+◌, ◌*◌, List, length, take, replicate, Ok, Err, Result, Vec, vec_items}
+use Rattle.std.specs.Prelude.{◌≡◌, ℕ, List, length, take, replicate, Ok, Err, Result, Vec, vec_items}
 use Rattle.cubes.specs.declared.entry.Entry.{Entry}
 use Rattle.faults.specs.declared.job.JobFault.{JobFault}
 use Rattle.jobs.specs.Lists.{Outcome, list_of}
-use Rattle.jobs.specs.Sizes.{enough, entry_count, blank_register}
+use Rattle.jobs.specs.Sizes.{enough, entry_count, blank_register, text_bytes}
 use Rattle.jobs.specs.Told.{Told}
-
--- a line of 30 inputs for each entry, and the other lines
-abbrev pub text_bytes : ℕ
-text_bytes = entry_count * 33 + 64
 
 -- the job refuses, with memory of these lengths
 pub record Refuses (file : List ℕ) (mode : ℕ) (fault : JobFault) : Type 0 where

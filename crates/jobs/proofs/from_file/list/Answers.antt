@@ -7,11 +7,15 @@ use Rattle.jobs.specs.Afterwards.{tabulated}
 use Rattle.jobs.specs.Lists.{room_of}
 use Rattle.jobs.proofs.Compare.{compared}
 use Rattle.jobs.proofs.Stages.{few_making, many_making, file_text, no_table, file_register, file_after}
+use Rattle.jobs.proofs.Suffices.{suffices}
 use Rattle.jobs.proofs.Tellings.{fits, told}
 use Rattle.jobs.proofs.from_file.list.Goals as goal
 
 pub returns-in_err-reading-clause-compared : goal.returns-in_err-reading-clause-compared
 returns-in_err-reading-clause-compared c = compared
+
+pub returns-in_err-reading-clause-suffices : goal.returns-in_err-reading-clause-suffices
+returns-in_err-reading-clause-suffices c = suffices
 
 -- ---- by a table
 
@@ -30,6 +34,9 @@ returns-then-inputs-le-MAX_TABLE_INPUTS-clause-told c = told _ _ _ _ _ _ (return
 
 pub returns-then-inputs-le-MAX_TABLE_INPUTS-clause-compared : goal.returns-then-inputs-le-MAX_TABLE_INPUTS-clause-compared
 returns-then-inputs-le-MAX_TABLE_INPUTS-clause-compared c = compared
+
+pub returns-then-inputs-le-MAX_TABLE_INPUTS-clause-suffices : goal.returns-then-inputs-le-MAX_TABLE_INPUTS-clause-suffices
+returns-then-inputs-le-MAX_TABLE_INPUTS-clause-suffices c = suffices
 
 pub returns-then-inputs-le-MAX_TABLE_INPUTS-clause-register : goal.returns-then-inputs-le-MAX_TABLE_INPUTS-clause-register
 returns-then-inputs-le-MAX_TABLE_INPUTS-clause-register c =
@@ -55,6 +62,9 @@ returns-clause-told c = told _ _ _ _ _ _ (returns-clause-value c)
 
 pub returns-clause-compared : goal.returns-clause-compared
 returns-clause-compared c = compared
+
+pub returns-clause-suffices : goal.returns-clause-suffices
+returns-clause-suffices c = suffices
 
 pub returns-clause-register : goal.returns-clause-register
 returns-clause-register c =

@@ -3,9 +3,9 @@ use Rattle.std.proofs.lemmas.List.{take_at, length-replicate}
 use Rattle.cubes.specs.declared.entry.Entry.{Entry}
 use Rattle.cubes.specs.Cubes.{blank}
 use Rattle.jobs.specs.Lists.{Outcome, Room, room_of, list_of}
-use Rattle.jobs.specs.Sizes.{enough, entry_count, blank_register}
+use Rattle.jobs.specs.Sizes.{enough, entry_count, blank_register, text_bytes}
 use Rattle.jobs.specs.Told.{Told}
-use Rattle.shell.specs.Outcomes.{text_bytes, blank_text, answer_in}
+use Rattle.shell.specs.Outcomes.{blank_text, answer_in}
 use Rattle.shell.proofs.job.work.Goals as goal
 
 -- a job whose memory is as it is allocated
