@@ -1,4 +1,3 @@
 mod Rows
 mod Smallest
-mod Circuits
 mod Seen

@@ -18,8 +18,9 @@ use Rattle.search.specs.Searches.{made_of}
 use Rattle.jobs.specs.Lists.{Room, at_reading, at_deciding}
 use Rattle.inspection.specs.declared.summary.Summary.{Summary}
 use Rattle.inspection.specs.Inspections.{smallest_by, summary_of, counted_summary, searched_summary, circuit_summary, inspected}
-use Rattle.inspection.specs.Seen.{circuit_of, Smallest, Seen}
-use Rattle.inspection.proofs.Circuits.{words_length, taken_as_written}
+use Rattle.jobs.specs.Told.{circuit_of}
+use Rattle.inspection.specs.Seen.{Smallest, Seen}
+use Rattle.jobs.proofs.Circuits.{words_length, taken_as_written}
 
 smallest_is : (c : Netlist) (o : Option ℕ) → Found (solves c) (2 ^ c.inputs) o → Smallest c o
 smallest_is c (Some row) f = (f.below, f.passes, f.first)

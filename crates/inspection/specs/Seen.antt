@@ -5,12 +5,9 @@ use Rattle.circuit.specs.declared.reading.Reading.{Reading}
 use Rattle.circuit.specs.Circuits.{Netlist}
 use Rattle.circuit.specs.Limits.{max_table_inputs}
 use Rattle.circuit.specs.Solutions.{solves, solution_count}
-use Rattle.aiger.specs.Grammar.{Written, gate_words}
+use Rattle.aiger.specs.Grammar.{Written}
+use Rattle.jobs.specs.Told.{circuit_of}
 use Rattle.inspection.specs.declared.summary.Summary.{Summary}
-
--- the circuit with these gates
-abbrev pub circuit_of : Reading → List (ℕ × ℕ) → Netlist
-circuit_of r gates = record { inputs = r.inputs; output = r.output; gates = gate_words gates }
 
 -- a solution before which there is none; or none, and then no row is a solution
 abbrev pub Smallest : Netlist → Option ℕ → Type 0

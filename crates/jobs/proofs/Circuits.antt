@@ -8,7 +8,7 @@ use Rattle.circuit.specs.declared.reading.Reading.{Reading}
 use Rattle.circuit.specs.Circuits.{Netlist, ordered, within_limits, taken_up}
 use Rattle.aiger.specs.Grammar.{GateLines, Written, gate_words, gate_table}
 
-words_length : (gs : List (ℕ × ℕ)) → length (gate_words gs) ≡ 2 * length gs
+pub words_length : (gs : List (ℕ × ℕ)) → length (gate_words gs) ≡ 2 * length gs
 words_length [] = refl
 words_length (g ∷ gs) = let rest = words_length gs in omega arith
 

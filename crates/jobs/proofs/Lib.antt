@@ -2,7 +2,7 @@ mod Runs
 pub mod Stages
 mod RunStories
 mod Prints
-mod Circuits
+pub mod Circuits
 mod Tellings
 mod Compare
 mod GateRoom

@@ -1,8 +1,5 @@
 -- The memory of a program's own suffices. Assumes nothing.
 use Rattle.std.proofs.Common.{◌≡◌, ℕ, ◌+◌, ◌*◌, ◌<◌, ◌≤◌, inl, inr, Bool, leb, ltb, List, ◌++◌, length, take, drop, Some, None, Ok, Err, IfErr, Option, Result, refl, sym, ◌∙◌, subst, arith, mul-le-mul, length-take, length-drop}
-use Rattle.std.proofs.Math.Logic.{Dec-prop}
-use Rattle.std.proofs.Math.Bridge.{le_prop}
-use Rattle.std.proofs.Math.Decide.{dec_le}
 use Rattle.std.proofs.lemmas.Bool.{cond_both, cond-false, ltb-true, leb-true, le-ltb}
 use Rattle.std.proofs.lemmas.Result.{IfErr-at_err}
 use Rattle.std.proofs.lemmas.Bool.Decides.{nat_tests}
@@ -25,10 +22,11 @@ use Rattle.listing.specs.declared.arity.Arity.{Arity}
 use Rattle.listing.specs.declared.mode.Mode.{Mode as ListingMode}
 use Rattle.listing.specs.declared.states.Draft.{Draft}
 use Rattle.listing.specs.declared.states.Finished.{Finished}
-use Rattle.listing.specs.Calls.{mode_of, arity_of, drafted, opened, begun, entries, cubes_in}
+use Rattle.listing.specs.Calls.{mode_of, drafted, opened, begun, entries, cubes_in}
 use Rattle.pla.specs.Printed.{carried, printed}
 use Rattle.pla.specs.Text.{head, text_of}
 use Rattle.pla.proofs.Parts.{length_head_le, text_size}
+use Rattle.listing.proofs.Arities.{arity_given}
 use Rattle.jobs.specs.Lists.{Outcome, Run, go_on, at_reading, at_deciding, at_listing, run_of, most_nexts, printed_text, run_text, rows_text, making_of, circuit_text}
 use Rattle.jobs.specs.Sizes.{enough, entry_count, text_bytes}
 use Rattle.jobs.specs.Suffices.{TableShort, Due, Suffices}
@@ -72,10 +70,6 @@ text_fits n cubes small few =
     omega (arith, lines, length_head_le n (length cubes) (omega (arith, small)) (omega (arith, few)), text_size n cubes (head n (length cubes)) refl)
 
 -- ---- with a circuit's number of inputs a draft is refused only for its mode
-
--- whichever proof of the limits the struct has
-arity_given : (n : ℕ) (limits : (1 ≤ n) × (n ≤ max_inputs)) → arity_of n ≡ Some (record { inputs = n; limits = limits })
-arity_given n limits = rw (Dec-prop le_prop (dec_le 1 n) (yes limits.0), arity_of) (rw (Dec-prop le_prop (dec_le n max_inputs) (yes limits.1)) refl)
 
 abbrev Opens : ℕ → Result Draft ListingFault → Type 0
 Opens n (Ok d) = (d.waivers ≡ 0) × (n ≡ d.arity.inputs)

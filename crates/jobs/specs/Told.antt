@@ -30,6 +30,10 @@ pub record Tells (n : ℕ) (S : ℕ → Bool) (mode : ℕ) (text : List ℕ) : T
   -- and in mode 1 it is in one cube at most
   pub apart : mode ≡ 1 → (i j row : ℕ) → Holds n cubes i row → Holds n cubes j row → i ≡ j
 
+-- the circuit with these gates
+abbrev pub circuit_of : Reading → List (ℕ × ℕ) → Netlist
+circuit_of r gates = record { inputs = r.inputs; output = r.output; gates = gate_words gates }
+
 -- the list of a circuit's solutions
 abbrev pub TellsCircuit : Netlist → ℕ → List ℕ → Type 0
 TellsCircuit c mode text = Tells c.inputs (solves c) mode text
@@ -39,12 +43,12 @@ pub record Told (file : List ℕ) (words mode : ℕ) (text : List ℕ) : Type 0 
   pub reading : Reading
   pub gates : List (ℕ × ℕ)
   pub circuit : Written file words reading gates
-  pub list : TellsCircuit (record { inputs = reading.inputs; output = reading.output; gates = gate_words gates }) mode text
+  pub list : TellsCircuit (circuit_of reading gates) mode text
 
 -- ---- two texts of one mode
 
 abbrev pub told_circuit : {file : List ℕ} {words mode : ℕ} {text : List ℕ} → Told file words mode text → Netlist
-told_circuit t = record { inputs = t.reading.inputs; output = t.reading.output; gates = gate_words t.gates }
+told_circuit t = circuit_of t.reading t.gates
 
 -- as many inputs, and the same solutions
 abbrev pub SameSolutions : Netlist → Netlist → Type 0

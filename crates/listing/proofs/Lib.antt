@@ -18,3 +18,4 @@ pub mod Main
 pub mod Turns
 pub mod Asked
 pub mod Nexted
+pub mod Arities

@@ -1,26 +1,19 @@
 -- What a job with memory of its own gives.
---   said   the text is that of the list of the file's circuit, or the refusal is the job's
+--   said   the text is that of the list of the file's circuit, or the refusal is due
 --   blank  text memory as it is allocated: zeros
 --   answer the text of the list, or the refusal
 -- Assumes nothing.
-use Rattle.std.specs.Prelude.{◌≡◌, ℕ, List, length, take, replicate, Ok, Err, Result, Vec, vec_items}
-use Rattle.cubes.specs.declared.entry.Entry.{Entry}
+use Rattle.std.specs.Prelude.{ℕ, List, take, replicate, Ok, Err, Result, Vec, vec_items}
 use Rattle.faults.specs.declared.job.JobFault.{JobFault}
 use Rattle.jobs.specs.Lists.{Outcome, list_of}
-use Rattle.jobs.specs.Sizes.{enough, entry_count, blank_register, text_bytes}
+use Rattle.jobs.specs.Sizes.{enough, blank_register, text_bytes}
+use Rattle.jobs.specs.Suffices.{Due}
 use Rattle.jobs.specs.Told.{Told}
 
--- the job refuses, with memory of these lengths
-pub record Refuses (file : List ℕ) (mode : ℕ) (fault : JobFault) : Type 0 where
-  pub register : List Entry
-  pub text : List ℕ
-  pub entries : length register ≡ entry_count
-  pub bytes : length text ≡ text_bytes
-  pub refused : (list_of file mode enough register text).0 ≡ Err fault
-
+-- with memory of its own a job is refused for the file or the mode, or for more cubes than there are entries
 abbrev pub Said : {Z : Type 0} → List ℕ → ℕ → Result (Vec ℕ Z) JobFault → Type 0
 Said file mode (Ok v) = Told file enough.gate_table mode (vec_items v)
-Said file mode (Err fault) = Refuses file mode fault
+Said file mode (Err refusal) = Due refusal.fault
 
 -- ---- by a defined value
 

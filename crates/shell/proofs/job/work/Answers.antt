@@ -1,9 +1,12 @@
-use Rattle.std.proofs.Common.{◌≡◌, ℕ, List, length, take, drop, Ok, vec_items, sym, ap, ◌∙◌, subst₂, rules}
+use Rattle.std.proofs.Common.{◌≡◌, ℕ, List, length, take, drop, Ok, vec_items, sym, ap, ◌∙◌, subst₂, arith, rules}
 use Rattle.std.proofs.lemmas.List.{take_at, length-replicate}
+use Rattle.std.proofs.lemmas.Result.{IfErr-at_err}
+use Rattle.faults.specs.declared.job.JobFault.{JobFault}
 use Rattle.cubes.specs.declared.entry.Entry.{Entry}
 use Rattle.cubes.specs.Cubes.{blank}
 use Rattle.jobs.specs.Lists.{Outcome, Room, room_of, list_of}
 use Rattle.jobs.specs.Sizes.{enough, entry_count, blank_register, text_bytes}
+use Rattle.jobs.specs.Suffices.{Due}
 use Rattle.jobs.specs.Told.{Told}
 use Rattle.shell.specs.Outcomes.{blank_text, answer_in}
 use Rattle.shell.proofs.job.work.Goals as goal
@@ -34,13 +37,7 @@ returns c =
     let bytes = c.as_mut_slice-2.ensures.value ∙ c.in_ok-text.ensures.items_if_clones_equal (λ y same. same) in
     let job = allocated c.args.file.now c.args.mode _ _ _ _ (c.lend.ensures.room ∙ c.in_ok-memory.ensures.room) register bytes c.in-Err.ensures.value in
     record {
-      said =
-          record {
-            register = blank_register;
-            text = blank_text;
-            entries = length-replicate entry_count blank;
-            bytes = length-replicate {A = ℕ} text_bytes 0;
-            refused = sym (ap (λ (o : Outcome). o.0) job);
-          };
+      said = IfErr-at_err (λ (refusal : JobFault). Due refusal.fault) (sym (ap (λ (o : Outcome). o.0) job))
+          (c.in-Err.ensures.suffices.works c.args.file.now c.args.mode blank_register blank_text (length-replicate entry_count blank) (omega (arith, length-replicate {A = ℕ} text_bytes 0)));
       value = ap answer_in job;
     }
