@@ -2,7 +2,7 @@
 --   answer     the length of the text and the refusal's place, number, layer, line and stage; what is missing is 0
 --   answered   the result, the answer and the text memory afterwards; the result is 0 or the refusal's number
 -- Assumes nothing.
-use Rattle.std.specs.Prelude.{ℕ, List, Ok, Err, Result}
+use Rattle.std.specs.Prelude.{◌≡◌, ℕ, ◌≤◌, ◌⊎◌, List, Ok, Err, Result}
 use Rattle.faults.specs.declared.job.JobFault.{JobFault}
 use Rattle.faults.specs.declared.job.Stage.{Stage}
 use Rattle.faults.specs.declared.job.Stage.TheVariants.{Reading, Deciding, Listing as ListingStage}
@@ -40,3 +40,7 @@ answer_of (Err fault) = refused fault
 
 abbrev pub answered : Outcome → ℕ × Answer × List ℕ
 answered outcome = ((answer_of outcome.0).number, answer_of outcome.0, outcome.1)
+
+-- 0, or a refusal of the file (but for its gate table), of the mode, or of a list of more cubes than there are entries
+abbrev pub DueNumber : ℕ → Type 0
+DueNumber n = ((n ≤ 15) × (n ≡ 9 → ⊥)) ⊎ (n ≡ 18)

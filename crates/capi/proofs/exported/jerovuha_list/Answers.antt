@@ -1,0 +1,19 @@
+use Rattle.std.proofs.Common.{◌≡◌, ℕ, IfErr, Result, sym, ap, subst, rules}
+use Rattle.std.proofs.lemmas.List.{length-replicate}
+use Rattle.faults.specs.declared.job.JobFault.{JobFault}
+use Rattle.cubes.specs.Cubes.{blank}
+use Rattle.jobs.specs.Lists.{Outcome, list_of}
+use Rattle.jobs.specs.Sizes.{enough, entry_count, blank_register}
+use Rattle.jobs.specs.Suffices.{Due}
+use Rattle.capi.specs.Answers.{DueNumber, answer_of}
+use Rattle.capi.proofs.Due.{answer_due}
+use Rattle.capi.proofs.exported.jerovuha_list.Goals as goal
+
+pub returns-clause-due : goal.returns-clause-due
+returns-clause-due c = λ long.
+    let text = c.args.text.now in
+    let job : c.list.result ≡ (list_of c.args.file.now c.args.mode enough blank_register text).0 = ap (λ (o : Outcome). o.0) c.list.ensures.value in
+    let told : answer_of c.list.result ≡ c.match-list.answer = search rules in
+    let due = c.list.ensures.suffices.works c.args.file.now c.args.mode blank_register text (length-replicate entry_count blank) long in
+    subst (λ a. DueNumber a.number) told
+    (answer_due c.list.result (subst (λ (r : Result ℕ JobFault). IfErr r (λ refusal. Due refusal.fault)) (sym job) due))
