@@ -33,7 +33,7 @@ gate_read bs p own g rest line =
     let a = numbers_read (g.0 ∷ g.1 ∷ []) own bs p rest line in
     (a.0, grind (arith, a.1), a.2)
 
-gate_back : (bs : List ℕ) (p : ℕ) (g : Gate × ℕ) → gate_at bs p ≡ Ok g → NumberLine (literals g.0) (drop p bs) (drop g.1 bs)
+pub gate_back : (bs : List ℕ) (p : ℕ) (g : Gate × ℕ) → gate_at bs p ≡ Ok g → NumberLine (literals g.0) (drop p bs) (drop g.1 bs)
 gate_back bs p g e =
     let v = next_ok (numbers_at bs p 2) _ g e in
     let all : literals (gate_in v.0.0) ≡ v.0.0 = of_three (λ l. literals (gate_in l) ≡ l) (λ a b c. refl) v.0.0 (numbers_count 2 bs p v.0 v.1) in
@@ -43,7 +43,7 @@ gate_back bs p g e =
 fits_read : (i k : ℕ) (g : ℕ × ℕ) → g.0 < 2 * (i + 1 + k) → g.1 < 2 * (i + 1 + k) → gate_fits (gate_of (2 * (i + 1 + k)) g) i k ≡ Ok tt
 fits_read i k g l r = grind (arith, nat_tests)
 
-fits_back : (g : Gate) (i k : ℕ) (u : Unit {0}) → gate_fits g i k ≡ Ok u → (g.own ≡ 2 * (i + 1 + k)) × (g.left < g.own) × (g.right < g.own)
+pub fits_back : (g : Gate) (i k : ℕ) (u : Unit {0}) → gate_fits g i k ≡ Ok u → (g.own ≡ 2 * (i + 1 + k)) × (g.left < g.own) × (g.right < g.own)
 fits_back g i k u e = (grind (arith, nat_tests), grind (arith, nat_tests), grind (arith, nat_tests))
 
 -- the table after gates from gate k on

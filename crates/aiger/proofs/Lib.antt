@@ -10,3 +10,4 @@ pub mod SymbolsRead
 pub mod Apart
 pub mod Whole
 pub mod Exact
+pub mod RefusedRules

@@ -3,3 +3,4 @@ pub mod Lines
 pub mod Symbols
 pub mod Reads
 pub mod Grammar
+pub mod Refused

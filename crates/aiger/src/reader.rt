@@ -1,7 +1,8 @@
 // The whole file.
-ghost use Rattle.std.specs.Prelude.{◌≡◌, length};
+ghost use Rattle.std.specs.Prelude.{◌≡◌, length, IfErr};
 ghost use Rattle.aiger.specs.Reads.{into_of, read_of};
 ghost use Rattle.aiger.specs.Grammar.{Exactly};
+ghost use Rattle.aiger.specs.Refused.{RuleBroken};
 
 use crate::file::File;
 use crate::gates::gate_lines;
@@ -34,6 +35,7 @@ fn read_into(bytes: &[u8], table: &mut [u32]) -> Result<Reading, CircuitFault>
 pub fn read(file: &[u8], table: &mut [u32]) -> Result<Reading, CircuitFault>
     ensures value { (table.new, result) ≡ read_of file.now (length table.old) }
     ensures written { Exactly file.now (length table.old) table.new result }
+    ensures broken { IfErr result (λ e. RuleBroken file.now (length table.old) e) }
 {
     table.fill(0);
     let answer = read_into(file, table);
