@@ -1,7 +1,7 @@
 -- No position twice: the marks of the machine, and the grammar's words. Assumes nothing.
 use Rattle.std.proofs.Common.{◌≡◌, ℕ, ◌<◌, ◌≤◌, Bool, true, false, ◌≢◌, List, [], ◌∷◌, length, get_or, set, replicate, sym, refl, ap, ◌∙◌, arith}
 use Rattle.std.proofs.lemmas.List.{get_or-set_same, get_or-set_other, length-set, get_or-replicate}
-use Rattle.std.proofs.lemmas.Bool.{true≢false}
+use Rattle.std.proofs.lemmas.Bool.{true≢false, false≢true}
 use Rattle.circuit.specs.Limits.{max_inputs}
 use Rattle.aiger.specs.Symbols.{slots}
 use Rattle.aiger.specs.Grammar.{Symbol, InRange, SymbolLines, OtherThan, Apart}
@@ -75,3 +75,20 @@ apart_free n ss h w a = free_read n (replicate slots false) ss h w (unmarked n s
 
 pub free_apart : (n : ℕ) (ss : List Symbol) → n ≤ max_inputs → AllIn n ss → Free (replicate slots false) ss → Apart ss
 free_apart n ss h w f = (free_back n (replicate slots false) ss h refl w f).1
+
+-- the marks after the lines of these symbols
+abbrev pub marks : List Bool → List Symbol → List Bool
+marks z [] = z
+marks z (s ∷ ss) = marks (set z (at s) true) ss
+
+-- a position that no symbol has is not marked by them
+marks_other : (n : ℕ) (z : List Bool) (s : Symbol) (ss : List Symbol) → n ≤ max_inputs → InRange n s.letter s.position → AllIn n ss → OtherThan s ss → get_or (marks z ss) (at s) false ≡ get_or z (at s) false
+marks_other n z s [] h w v o = refl
+marks_other n z s (t ∷ ss) h w (vt, v) (o, os) =
+    let ne : at s ≢ at t = λ same. o (place_same n s.letter s.position t.letter t.position h w vt same) in
+    marks_other n (set z (at t) true) s ss h w v os ∙ get_or-set_other z (at t) (at s) true false ne
+
+pub taken_breaks : (n : ℕ) (s : Symbol) (ss : List Symbol) → n ≤ max_inputs → AllIn n ss → (InRange n s.letter s.position → get_or (marks (replicate slots false) ss) (at s) false ≡ true)
+    → InRange n s.letter s.position × OtherThan s ss → ⊥
+taken_breaks n s ss h v taken (w, o) =
+    false≢true (sym (get_or-replicate slots (at s) false false (place_low n s.letter s.position h w)) ∙ sym (marks_other n (replicate slots false) s ss h w v o) ∙ taken w)

@@ -10,4 +10,6 @@ pub mod SymbolsRead
 pub mod Apart
 pub mod Whole
 pub mod Exact
+pub mod SymbolsRefused
+pub mod LineCounts
 pub mod RefusedRules

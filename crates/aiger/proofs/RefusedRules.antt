@@ -14,12 +14,13 @@ use Rattle.faults.specs.declared.circuit.CircuitFault.{CircuitFault}
 use Rattle.faults.specs.declared.circuit.CircuitFault.TheVariants.{Text, Broken}
 use Rattle.text.specs.Lines.{item_at}
 use Rattle.text.specs.Runs.{next}
+use Rattle.text.specs.Places.{line_of}
 use Rattle.aiger.specs.FaultLines.{located_at, located_in}
 use Rattle.aiger.specs.Lines.{up, keep, Within, header_read, header_fits, inputs_at, output_at, gate_at, gate_fits, gates_at}
-use Rattle.aiger.specs.Symbols.{refused_at}
+use Rattle.aiger.specs.Symbols.{slots, first, refused_at}
 use Rattle.aiger.specs.Reads.{Answer, lines_of, into_of, settled, read_of}
 use Rattle.aiger.specs.Grammar.{NumberLine, HeaderLine, InputLines, GateLines}
-use Rattle.aiger.specs.Refused.{Keeps, HeaderBroken, UpToInputs, GateBreaks, GateBroken, RuleBroken}
+use Rattle.aiger.specs.Refused.{Keeps, HeaderBroken, UpToInputs, UpToGates, GateBreaks, GateBroken, SymbolBroken, RuleBroken}
 use Rattle.aiger.specs.declared.gates.Gate.{Gate}
 use Rattle.aiger.specs.declared.header.Header.{Header}
 use Rattle.aiger.specs.declared.states.SymbolFault.{SymbolFault}
@@ -28,7 +29,11 @@ use Rattle.aiger.proofs.Carried.{told_ok}
 use Rattle.aiger.proofs.HeaderTexts.{header_back, limits_back}
 use Rattle.aiger.proofs.NumberTexts.{number_line_back}
 use Rattle.aiger.proofs.LiteralTexts.{inputs_back, output_back}
-use Rattle.aiger.proofs.GateTexts.{gate_back, fits_back}
+use Rattle.aiger.proofs.SymbolSteps.{ran}
+use Rattle.aiger.proofs.Apart.{all_in, free_apart, taken_breaks}
+use Rattle.aiger.proofs.SymbolsRefused.{Wrong, symbols_wrong}
+use Rattle.aiger.proofs.LineCounts.{join, line_cut, header_cut, inputs_cut, gates_cut, form_cut, symbols_cut, at_place}
+use Rattle.aiger.proofs.GateTexts.{gate_back, fits_back, gates_back}
 
 -- faults that are carried up
 
@@ -191,14 +196,45 @@ gate_rule bs w due own g GateLiteral line b r = r
 gate_rule bs w due own g Operand line b r = r
 gate_rule bs w due own g SymbolPosition line b r = absurd b
 
--- a fault of the symbol lines
-symbol_told : (bs : List ℕ) (w : ℕ) (e : SymbolFault) → RuleBroken bs w (refused_at bs e)
-symbol_told bs w (SymbolText e) = tt
-symbol_told bs w (NoSlot place) = tt
-
-symbols_told : (P : CircuitFault → Type 0) (bs : List ℕ) (r : Result (Unit {0}) SymbolFault) (x : Reading) → ((e : SymbolFault) → P (refused_at bs e)) → IfErr (next (result_map_both (λ u. u) (refused_at bs) r) (λ u. Ok x)) P
+symbols_told : (P : CircuitFault → Type 0) (bs : List ℕ) (r : Result (Unit {0}) SymbolFault) (x : Reading) → ((e : SymbolFault) → r ≡ Err e → P (refused_at bs e))
+    → IfErr (next (result_map_both (λ u. u) (refused_at bs) r) (λ u. Ok x)) P
 symbols_told P bs (Ok u) x f = tt
-symbols_told P bs (Err e) x f = f e
+symbols_told P bs (Err e) x f = f e refl
+
+-- the line of a symbol whose position is refused
+symbol_line : (bs : List ℕ) (w : ℕ) (h : Header) (gs : List (ℕ × ℕ)) (after : List ℕ) (place : ℕ) → UpToGates bs w h gs after → length gs ≡ h.gates
+    → Wrong bs place h.inputs (replicate slots false) after → SymbolBroken bs w (line_of bs place)
+symbol_line bs w h gs after place g count s =
+    let i = g.inputs in
+    let v = all_in h.inputs s.symbols after s.here s.lines in
+    let cut = join bs i.after_header (10 ∷ s.rest) _ _ (header_cut h bs i.after_header i.header)
+    (join i.after_header g.after_inputs (10 ∷ s.rest) _ _ (inputs_cut h.inputs 1 i.after_header g.after_inputs i.inputs)
+    (join g.after_inputs g.after_output (10 ∷ s.rest) _ _ (line_cut (g.output ∷ []) g.after_inputs g.after_output g.output_line)
+    (join g.after_output after (10 ∷ s.rest) _ _ (gates_cut gs h.inputs 0 g.after_output after g.gates)
+    (join after s.here (10 ∷ s.rest) _ _ (symbols_cut h.inputs s.symbols after s.here s.lines) (form_cut s.s s.here s.rest s.form))))) in
+    let before = at_place bs s.rest place 10 _ s.end cut in
+    record {
+      h = h;
+      gs = gs;
+      symbols = s.symbols;
+      s = s.s;
+      after_gates = after;
+      here = s.here;
+      rest = s.rest;
+      before = g;
+      count = count;
+      lines = s.lines;
+      apart = free_apart h.inputs s.symbols i.limits.inputs v s.free;
+      form = s.form;
+      breaks = taken_breaks h.inputs s.s s.symbols i.limits.inputs v s.taken;
+      line_is = omega (arith, before, count);
+    }
+
+-- a fault of the symbol lines
+symbol_told : (bs : List ℕ) (w : ℕ) (h : Header) (gs : List (ℕ × ℕ)) (p : ℕ) → UpToGates bs w h gs (drop p bs) → length gs ≡ h.gates
+    → (e : SymbolFault) → ran (length bs) bs (first p h.inputs) ≡ Err e → RuleBroken bs w (refused_at bs e)
+symbol_told bs w h gs p g count (SymbolText e) r = tt
+symbol_told bs w h gs p g count (NoSlot place) r = symbol_line bs w h gs (drop p bs) place g count (symbols_wrong bs place p h.inputs r)
 
 module _ (bs : List ℕ) (w : ℕ) (few : length bs ≤ max_file_bytes) where
   lines_told : (t : List ℕ) → length t ≡ w → IfErr (lines_of bs t).1 (RuleBroken bs w)
@@ -247,7 +283,11 @@ module _ (bs : List ℕ) (w : ℕ) (few : length bs ≤ max_file_bytes) where
         breaks = subst (λ (d : ℕ). GateBreaks d own ops rule) due b;
         line_is = sym line_is;
       })))
-      (λ p ep. symbols_told P bs _ _ (symbol_told bs w))))))
+      (λ p ep.
+      let back = gates_back h.gates h.inputs 0 o.1 p bs t g.0 (λ j. (g.0, ep j)) in
+      let before : UpToGates bs w h back.0 (drop p bs) =
+      record { after_inputs = drop q bs; after_output = drop o.1 bs; inputs = inputs; output = o.0; output_line = out.1; output_below = out.0; gates = back.2 } in
+      symbols_told P bs (ran (length bs) bs (first p h.inputs)) _ (symbol_told bs w h back.0 p before back.1))))))
 
 into_told : (bs : List ℕ) (w : ℕ) → IfErr (into_of bs (replicate w 0)).1 (RuleBroken bs w)
 into_told bs w =

@@ -49,7 +49,7 @@ not_nil bs ds rest p x h e =
     omega (arith, length-append ds (x ∷ rest))
 
 -- a name's byte is no newline
-name_byte : (b : ℕ) → nameable (class_of b) ≡ true → is Newline (class_of b) ≡ false
+pub name_byte : (b : ℕ) → nameable (class_of b) ≡ true → is Newline (class_of b) ≡ false
 name_byte b nb = ⊎_elim (λ t. let n = newline_byte b t in absurd (false≢true (sym (ap (λ (b : ℕ). nameable (class_of b)) n) ∙ nb))) (λ f. f) (cases_Bool (is Newline (class_of b)))
 
 named_step : (bs : List ℕ) (m : SymbolMachine) (l : Letter) (p k b : ℕ) → nameable (class_of b) ≡ true → k < max_name → step_by bs m (Name l p k) (class_of b) b ≡ Ok (moved m (Name l p (k + 1)))

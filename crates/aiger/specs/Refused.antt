@@ -5,9 +5,9 @@
 --   up to inputs   line 1 is right, and so are the lines of the first k inputs; rest stands after them
 --   up to gates    the same up to the output, and the lines of these gates
 --   broken         a line of the form that is due breaks the rule; here is the text that begins with it
---   rule broken    the fault is a rule that is broken in this way. Of a fault of the text nothing is said, nor of a symbol's
---                  position
-use Rattle.std.specs.Prelude.{◌≡◌, ℕ, ◌+◌, ◌*◌, ◌<◌, ◌≤◌, List, [], ◌∷◌, length}
+--   symbol form    a symbol line, whatever its position
+--   rule broken    the fault is a rule that is broken in this way. Of a fault of the text nothing is said
+use Rattle.std.specs.Prelude.{◌≡◌, ℕ, ◌+◌, ◌*◌, ◌<◌, ◌≤◌, List, [], ◌∷◌, ◌++◌, length}
 use Rattle.circuit.specs.Limits.{max_inputs, max_gates}
 use Rattle.faults.specs.Reports.{max_file_bytes, rule_number}
 use Rattle.faults.specs.declared.circuit.Rule.{Rule}
@@ -15,7 +15,8 @@ use Rattle.faults.specs.declared.circuit.Rule.TheVariants.{InputCount, LatchCoun
 use Rattle.faults.specs.declared.circuit.CircuitFault.{CircuitFault}
 use Rattle.faults.specs.declared.circuit.CircuitFault.TheVariants.{Text, Broken}
 use Rattle.aiger.specs.Lines.{Within}
-use Rattle.aiger.specs.Grammar.{NumberLine, HeaderLine, InputLines, GateLines}
+use Rattle.aiger.specs.Symbols.{max_name}
+use Rattle.aiger.specs.Grammar.{Numeral, NumberLine, HeaderLine, InputLines, GateLines, Symbol, letter_byte, InRange, NameBytes, SymbolLines, OtherThan, Apart}
 use Rattle.aiger.specs.declared.header.Header.{Header}
 
 -- a header's rules, with a gate table of so many words
@@ -110,6 +111,31 @@ pub record GateBroken (file : List ℕ) (words : ℕ) (rule : Rule) (line : ℕ)
   pub breaks : GateBreaks (2 * (h.inputs + 1 + length gs)) own g rule
   pub line_is : line ≡ h.inputs + 3 + length gs
 
+pub record SymbolForm (s : Symbol) (ts rest : List ℕ) : Type 0 where
+  pub ds : List ℕ
+  pub position : Numeral s.position ds
+  pub some : 1 ≤ length s.name
+  pub few : length s.name ≤ max_name
+  pub bytes : NameBytes s.name
+  pub text : ts ≡ letter_byte s.letter ∷ (ds ++ 32 ∷ (s.name ++ 10 ∷ rest))
+
+-- the position of a symbol is too large, or one of the symbols before has it
+pub record SymbolBroken (file : List ℕ) (words line : ℕ) : Type 0 where
+  pub h : Header
+  pub gs : List (ℕ × ℕ)
+  pub symbols : List Symbol
+  pub s : Symbol
+  pub after_gates : List ℕ
+  pub here : List ℕ
+  pub rest : List ℕ
+  pub before : UpToGates file words h gs after_gates
+  pub count : length gs ≡ h.gates
+  pub lines : SymbolLines h.inputs symbols after_gates here
+  pub apart : Apart symbols
+  pub form : SymbolForm s here rest
+  pub breaks : InRange h.inputs s.letter s.position × OtherThan s symbols → ⊥
+  pub line_is : line ≡ h.inputs + 3 + h.gates + length symbols
+
 abbrev pub BrokenBy : List ℕ → ℕ → Rule → ℕ → Type 0
 BrokenBy file words InputCount line = HeaderBroken file words InputCount line
 BrokenBy file words LatchCount line = HeaderBroken file words LatchCount line
@@ -121,7 +147,7 @@ BrokenBy file words InputLine line = InputBroken file words line
 BrokenBy file words OutputLiteral line = OutputBroken file words line
 BrokenBy file words GateLiteral line = GateBroken file words GateLiteral line
 BrokenBy file words Operand line = GateBroken file words Operand line
-BrokenBy file words SymbolPosition line = Unit {0}
+BrokenBy file words SymbolPosition line = SymbolBroken file words line
 
 abbrev pub RuleBroken : List ℕ → ℕ → CircuitFault → Type 0
 RuleBroken file words (Text located) = Unit {0}
