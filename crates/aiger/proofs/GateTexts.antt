@@ -21,13 +21,13 @@ GateRead = Result (Gate × ℕ) TextFault
 abbrev Gates : Type 0
 Gates = List ℕ × Result ℕ CircuitFault
 
-abbrev gate_of : ℕ → ℕ × ℕ → Gate
+abbrev pub gate_of : ℕ → ℕ × ℕ → Gate
 gate_of own g = record { own = own; left = g.0; right = g.1 }
 
 abbrev literals : Gate → List ℕ
 literals g = g.own ∷ g.left ∷ g.right ∷ []
 
-gate_read : (bs : List ℕ) (p own : ℕ) (g : ℕ × ℕ) (rest : List ℕ) → NumberLine (own ∷ g.0 ∷ g.1 ∷ []) (drop p bs) rest
+pub gate_read : (bs : List ℕ) (p own : ℕ) (g : ℕ × ℕ) (rest : List ℕ) → NumberLine (own ∷ g.0 ∷ g.1 ∷ []) (drop p bs) rest
     → (q : ℕ) × (gate_at bs p ≡ Ok (gate_of own g, q)) × (drop q bs ≡ rest)
 gate_read bs p own g rest line =
     let a = numbers_read (g.0 ∷ g.1 ∷ []) own bs p rest line in
@@ -40,7 +40,7 @@ gate_back bs p g e =
     subst (λ (g : Gate × ℕ). NumberLine (literals g.0) (drop p bs) (drop g.1 bs)) (ok_same (gate_in v.0.0, v.0.1) g v.2)
     (subst (λ (l : List ℕ). NumberLine l (drop p bs) (drop v.0.1 bs)) (sym all) (numbers_back 2 bs p v.0 v.1))
 
-fits_read : (i k : ℕ) (g : ℕ × ℕ) → g.0 < 2 * (i + 1 + k) → g.1 < 2 * (i + 1 + k) → gate_fits (gate_of (2 * (i + 1 + k)) g) i k ≡ Ok tt
+pub fits_read : (i k : ℕ) (g : ℕ × ℕ) → g.0 < 2 * (i + 1 + k) → g.1 < 2 * (i + 1 + k) → gate_fits (gate_of (2 * (i + 1 + k)) g) i k ≡ Ok tt
 fits_read i k g l r = grind (arith, nat_tests)
 
 pub fits_back : (g : Gate) (i k : ℕ) (u : Unit {0}) → gate_fits g i k ≡ Ok u → (g.own ≡ 2 * (i + 1 + k)) × (g.left < g.own) × (g.right < g.own)

@@ -13,3 +13,4 @@ pub mod Exact
 pub mod SymbolsRefused
 pub mod LineCounts
 pub mod RefusedRules
+pub mod BrokenTold

@@ -77,19 +77,19 @@ each h w r k SymbolPosition = λ _. tt
 
 -- a test of line 1 says whether the rule is kept
 
-range_false : (i : ℕ) → (ltb i 1 || ltb max_inputs i) ≡ false → (1 ≤ i) × (i ≤ max_inputs)
+pub range_false : (i : ℕ) → (ltb i 1 || ltb max_inputs i) ≡ false → (1 ≤ i) × (i ≤ max_inputs)
 range_false i e = (grind (arith, nat_tests), grind (arith, nat_tests))
 
-range_true : (i : ℕ) → (ltb i 1 || ltb max_inputs i) ≡ true → (1 ≤ i) × (i ≤ max_inputs) → ⊥
+pub range_true : (i : ℕ) → (ltb i 1 || ltb max_inputs i) ≡ true → (1 ≤ i) × (i ≤ max_inputs) → ⊥
 range_true i e k = let a = k.0 in let b = k.1 in grind (arith, nat_tests)
 
-equal_false : (a b : ℕ) → not (eqb a b) ≡ false → a ≡ b
+pub equal_false : (a b : ℕ) → not (eqb a b) ≡ false → a ≡ b
 equal_false a b e = grind (arith, nat_tests)
 
-equal_true : (a b : ℕ) → not (eqb a b) ≡ true → a ≡ b → ⊥
+pub equal_true : (a b : ℕ) → not (eqb a b) ≡ true → a ≡ b → ⊥
 equal_true a b e k = grind (arith, nat_tests)
 
-less_true : (a b : ℕ) → ltb a b ≡ true → b ≤ a → ⊥
+pub less_true : (a b : ℕ) → ltb a b ≡ true → b ≤ a → ⊥
 less_true a b e k = grind (arith, nat_tests)
 
 module _ (bs : List ℕ) (w : ℕ) (few : length bs ≤ max_file_bytes) where
@@ -147,7 +147,7 @@ output_told P hi i p bs text f =
 
 -- the lines of the gates
 
-operands_true : (own left right : ℕ) → (leb own left || leb own right) ≡ true → (left < own) × (right < own) → ⊥
+pub operands_true : (own left right : ℕ) → (leb own left || leb own right) ≡ true → (left < own) × (right < own) → ⊥
 operands_true own left right e k = let a = k.0 in let b = k.1 in grind (arith, nat_tests)
 
 gate_told : (P : CircuitFault → Type 0) (g : Gate) (i k : ℕ) → ((rule : Rule) → GateBreaks (2 * (i + 1 + k)) g.own (g.left, g.right) rule → P (Broken rule (i + 3 + k))) → IfErr (gate_fits g i k) P
