@@ -1,7 +1,7 @@
 -- No position twice: the marks of the machine, and the grammar's words. Assumes nothing.
-use Rattle.std.proofs.Common.{◌≡◌, ℕ, ◌<◌, ◌≤◌, Bool, true, false, ◌≢◌, List, [], ◌∷◌, length, get_or, set, replicate, sym, refl, ap, ◌∙◌, arith}
+use Rattle.std.proofs.Common.{◌≡◌, ℕ, ◌<◌, ◌≤◌, Bool, true, false, ◌≢◌, List, [], ◌∷◌, length, eqb, get_or, set, replicate, ⊎_elim, sym, refl, ap, ◌∙◌, arith}
 use Rattle.std.proofs.lemmas.List.{get_or-set_same, get_or-set_other, length-set, get_or-replicate}
-use Rattle.std.proofs.lemmas.Bool.{true≢false, false≢true}
+use Rattle.std.proofs.lemmas.Bool.{true≢false, false≢true, cases_Bool, eqb-true, eqb-false, true_from_ne_false}
 use Rattle.circuit.specs.Limits.{max_inputs}
 use Rattle.aiger.specs.Symbols.{slots}
 use Rattle.aiger.specs.Grammar.{Symbol, InRange, SymbolLines, OtherThan, Apart}
@@ -92,3 +92,32 @@ pub taken_breaks : (n : ℕ) (s : Symbol) (ss : List Symbol) → n ≤ max_input
     → InRange n s.letter s.position × OtherThan s ss → ⊥
 taken_breaks n s ss h v taken (w, o) =
     false≢true (sym (get_or-replicate slots (at s) false false (place_low n s.letter s.position h w)) ∙ sym (marks_other n (replicate slots false) s ss h w v o) ∙ taken w)
+
+-- a slot that is marked stays marked
+marks_keep : (n : ℕ) (z : List Bool) (i : ℕ) (ss : List Symbol) → n ≤ max_inputs → length z ≡ slots → AllIn n ss → get_or z i false ≡ true → get_or (marks z ss) i false ≡ true
+marks_keep n z i [] h l v e = e
+marks_keep n z i (t ∷ ss) h l (vt, v) e =
+    let low = place_low n t.letter t.position h vt in
+    let inside : at t < length z = omega arith in
+    let here : get_or (set z (at t) true) i false ≡ true =
+    ⊎_elim
+    (λ same. ap (λ (j : ℕ). get_or (set z (at t) true) j false) (eqb-true i (at t) same) ∙ get_or-set_same z (at t) true false inside)
+    (λ other. get_or-set_other z (at t) i true false (eqb-false i (at t) other) ∙ e)
+    (cases_Bool (eqb i (at t))) in
+    marks_keep n (set z (at t) true) i ss h (length-set z (at t) true ∙ l) v here
+
+-- no symbol has a position that they do not mark
+marks_back : (n : ℕ) (z : List Bool) (s : Symbol) (ss : List Symbol) → n ≤ max_inputs → length z ≡ slots → AllIn n ss → get_or (marks z ss) (at s) false ≡ false → OtherThan s ss
+marks_back n z s [] h l v e = tt
+marks_back n z s (t ∷ ss) h l (vt, v) e =
+    let low = place_low n t.letter t.position h vt in
+    let inside : at t < length z = omega arith in
+    let marked : get_or (marks (set z (at t) true) ss) (at t) false ≡ true =
+    marks_keep n (set z (at t) true) (at t) ss h (length-set z (at t) true ∙ l) v (get_or-set_same z (at t) true false inside) in (
+      (λ same. true≢false (sym marked ∙ ap (λ (i : ℕ). get_or (marks (set z (at t) true) ss) i false) (same_place s t same) ∙ e)),
+      marks_back n (set z (at t) true) s ss h (length-set z (at t) true ∙ l) v e,
+    )
+
+pub breaks_taken : (n : ℕ) (s : Symbol) (ss : List Symbol) → n ≤ max_inputs → AllIn n ss → (InRange n s.letter s.position × OtherThan s ss → ⊥)
+    → InRange n s.letter s.position → get_or (marks (replicate slots false) ss) (at s) false ≡ true
+breaks_taken n s ss h v b w = true_from_ne_false _ (λ e. b (w, marks_back n (replicate slots false) s ss h refl v e))

@@ -13,4 +13,5 @@ pub mod Exact
 pub mod SymbolsRefused
 pub mod LineCounts
 pub mod RefusedRules
+pub mod SymbolsTold
 pub mod BrokenTold

@@ -22,28 +22,28 @@ use Rattle.text.proofs.Runs.{past_end}
 use Rattle.aiger.proofs.SymbolSteps.{Step, going, ran, forward}
 use Rattle.aiger.proofs.SymbolTexts.{place, Free, Lines, Rest, ended, slot_within}
 
-abbrev mk : State → ℕ → ℕ → List Bool → SymbolMachine
+abbrev pub mk : State → ℕ → ℕ → List Bool → SymbolMachine
 mk s p n z = record { state = s; at = p; inputs = n; seen = z }
 
 -- single steps
 
 -- a step that goes well, and then the others
-step_read : (f : ℕ) (bs : List ℕ) (m t : SymbolMachine) → going bs m ≡ true → step_of bs m ≡ Ok t → ran f bs t ≡ Ok tt → ran (suc f) bs m ≡ Ok tt
-step_read f bs m t go e r = cond-true (going bs m) _ _ go ∙ ap (λ (s : Step). next s (ran f bs)) e ∙ r
+pub step_read : (f : ℕ) (bs : List ℕ) (m t : SymbolMachine) (a : Result (Unit {0}) SymbolFault) → going bs m ≡ true → step_of bs m ≡ Ok t → ran f bs t ≡ a → ran (suc f) bs m ≡ a
+step_read f bs m t a go e r = cond-true (going bs m) _ _ go ∙ ap (λ (s : Step). next s (ran f bs)) e ∙ r
 
 -- the steps left after a step
-less : (f : ℕ) (bs : List ℕ) (m t : SymbolMachine) → length bs - m.at ≤ suc f → m.at < length bs → step_of bs m ≡ Ok t → length bs - t.at ≤ f
+pub less : (f : ℕ) (bs : List ℕ) (m t : SymbolMachine) → length bs - m.at ≤ suc f → m.at < length bs → step_of bs m ≡ Ok t → length bs - t.at ≤ f
 less f bs m t h i e = let o = forward bs m t e in omega arith
 
-inside_of : (bs : List ℕ) (p x : ℕ) (rest : List ℕ) → drop p bs ≡ x ∷ rest → ltb p (length bs) ≡ true
+pub inside_of : (bs : List ℕ) (p x : ℕ) (rest : List ℕ) → drop p bs ≡ x ∷ rest → ltb p (length bs) ≡ true
 inside_of bs p x rest e = lt-ltb _ _ (first_of bs p x rest e).0
 
 -- a step at a byte x
-at_byte : (bs : List ℕ) (m : SymbolMachine) (x : ℕ) (rest : List ℕ) → drop m.at bs ≡ x ∷ rest → step_of bs m ≡ step_by bs m m.state (class_of x) x
+pub at_byte : (bs : List ℕ) (m : SymbolMachine) (x : ℕ) (rest : List ℕ) → drop m.at bs ≡ x ∷ rest → step_of bs m ≡ step_by bs m m.state (class_of x) x
 at_byte bs m x rest e =
     cond-true (ltb m.at (length bs)) _ _ (inside_of bs m.at x rest e) ∙ ap (λ (b : ℕ). step_by bs m m.state (class_of b) b) (first_of bs m.at x rest e).1
 
-not_nil : (bs ds rest : List ℕ) (p x : ℕ) → length bs - p ≤ 0 → drop p bs ≡ ds ++ x ∷ rest → ⊥
+pub not_nil : (bs ds rest : List ℕ) (p x : ℕ) → length bs - p ≤ 0 → drop p bs ≡ ds ++ x ∷ rest → ⊥
 not_nil bs ds rest p x h e =
     let long : 0 ≡ length (ds ++ x ∷ rest) = ap length (sym (drop_all p bs (omega arith)) ∙ e) in
     omega (arith, length-append ds (x ∷ rest))
@@ -52,17 +52,17 @@ not_nil bs ds rest p x h e =
 pub name_byte : (b : ℕ) → nameable (class_of b) ≡ true → is Newline (class_of b) ≡ false
 name_byte b nb = ⊎_elim (λ t. let n = newline_byte b t in absurd (false≢true (sym (ap (λ (b : ℕ). nameable (class_of b)) n) ∙ nb))) (λ f. f) (cases_Bool (is Newline (class_of b)))
 
-named_step : (bs : List ℕ) (m : SymbolMachine) (l : Letter) (p k b : ℕ) → nameable (class_of b) ≡ true → k < max_name → step_by bs m (Name l p k) (class_of b) b ≡ Ok (moved m (Name l p (k + 1)))
+pub named_step : (bs : List ℕ) (m : SymbolMachine) (l : Letter) (p k b : ℕ) → nameable (class_of b) ≡ true → k < max_name → step_by bs m (Name l p k) (class_of b) b ≡ Ok (moved m (Name l p (k + 1)))
 named_step bs m l p k b nb h = let n = name_byte b nb in grind (arith, nat_tests, n, nb)
 
-line_step : (m : SymbolMachine) (l : Letter) (p k : ℕ) → 1 ≤ k → InRange m.inputs l p → get_or m.seen (place l p) false ≡ false → named m l p k ≡ Ok (ended m (place l p))
+pub line_step : (m : SymbolMachine) (l : Letter) (p k : ℕ) → 1 ≤ k → InRange m.inputs l p → get_or m.seen (place l p) false ≡ false → named m l p k ≡ Ok (ended m (place l p))
 line_step m l p k some w new = let s = slot_within m.inputs l p w in grind (arith, nat_tests, s)
 
-place_step : (bs : List ℕ) (m : SymbolMachine) (l : Letter) (v q : ℕ) → number_at bs m.at ≡ Ok (v, q) → placed bs m l ≡ Ok (mk (Gap l v) q m.inputs m.seen)
+pub place_step : (bs : List ℕ) (m : SymbolMachine) (l : Letter) (v q : ℕ) → number_at bs m.at ≡ Ok (v, q) → placed bs m l ≡ Ok (mk (Gap l v) q m.inputs m.seen)
 place_step bs m l v q e = grind (arith, e)
 
 -- a numeral begins with a digit
-numeral_first : (v : ℕ) (ds rest : List ℕ) → Numeral v ds → (d : ℕ) × (more : List ℕ) × (ds ++ rest ≡ d ∷ more) × (is Digit (class_of d) ≡ true)
+pub numeral_first : (v : ℕ) (ds rest : List ℕ) → Numeral v ds → (d : ℕ) × (more : List ℕ) × (ds ++ rest ≡ d ∷ more) × (is Digit (class_of d) ≡ true)
 numeral_first v [] rest n = absurd (omega (arith, n.some))
 numeral_first v (d ∷ ds) rest n =
     let h = n.digit 0 (omega arith) in
@@ -81,7 +81,7 @@ module _ (f : ℕ) (bs : List ℕ) (ih : Fore f bs) where
   move s t p n z x rest h e g k r =
       let m = mk s p n z in
       let st : step_of bs m ≡ Ok (mk t (p + 1) n z) = at_byte bs m x rest e ∙ k in
-      step_read f bs m _ (g ∙ inside_of bs p x rest e) st
+      step_read f bs m _ (Ok tt) (g ∙ inside_of bs p x rest e) st
       (ih t (p + 1) n z (less f bs m _ h (first_of bs p x rest e).0 st) (subst (Rest n z t) (sym (one_on bs p x rest e)) r))
 
   -- from the letter of a symbol line on
@@ -120,7 +120,7 @@ module _ (f : ℕ) (bs : List ℕ) (ih : Fore f bs) where
   fore_name l q k p n z [] rest h e some few bytes range free more =
       let m = mk (Name l q k) p n z in
       let s : step_of bs m ≡ Ok (ended m (place l q)) = at_byte bs m 10 rest e ∙ line_step m l q k (omega arith) range free in
-      step_read f bs m _ (inside_of bs p 10 rest e) s
+      step_read f bs m _ (Ok tt) (inside_of bs p 10 rest e) s
       (ih Start (p + 1) n (set z (place l q) true) (less f bs m _ h (first_of bs p 10 rest e).0 s) (subst (Lines n (set z (place l q) true)) (sym (one_on bs p 10 rest e)) more))
   fore_name l q k p n z (b ∷ name) rest h e some few (nb, bytes) range free more =
       move (Name l q k) (Name l q (k + 1)) p n z b (name ++ 10 ∷ rest) h e refl (named_step bs (mk (Name l q k) p n z) l q k b nb (omega arith))
@@ -132,7 +132,7 @@ module _ (f : ℕ) (bs : List ℕ) (ih : Fore f bs) where
       let d = numeral_first v ds (32 ∷ rest) num in
       let a = number_read bs p v 32 ds rest num refl e in
       let s : step_of bs m ≡ Ok (mk (Gap l v) a.0 n z) = at_byte bs m d.0 d.1 (e ∙ d.2) ∙ cond-true _ _ _ d.3 ∙ place_step bs m l v a.0 a.1 in
-      step_read f bs m _ (inside_of bs p d.0 d.1 (e ∙ d.2)) s
+      step_read f bs m _ (Ok tt) (inside_of bs p d.0 d.1 (e ∙ d.2)) s
       (ih (Gap l v) a.0 n z (less f bs m _ h (first_of bs p d.0 d.1 (e ∙ d.2)).0 s) (rest, a.2, named))
 
 fore : (f : ℕ) (bs : List ℕ) → Fore f bs

@@ -46,13 +46,13 @@ module _ (bs : List ℕ) (q : ℕ) where
     pub end : drop q bs ≡ 10 ∷ rest
 
   -- after a name: more lines, the last of which is refused, or the name's own position is refused
-  abbrev After : ℕ → List Bool → Letter → ℕ → List ℕ → Type 0
+  abbrev pub After : ℕ → List Bool → Letter → ℕ → List ℕ → Type 0
   After n z l p rest =
       (InRange n l p × (get_or z (place l p) false ≡ false) × Wrong n (set z (place l p) true) rest)
       ⊎ ((InRange n l p → get_or z (place l p) false ≡ true) × (drop q bs ≡ 10 ∷ rest))
 
   -- the rest of a name, after k bytes of it
-  record NamedWrong (n : ℕ) (z : List Bool) (l : Letter) (p k : ℕ) (ts : List ℕ) : Type 0 where
+  pub record NamedWrong (n : ℕ) (z : List Bool) (l : Letter) (p k : ℕ) (ts : List ℕ) : Type 0 where
     pub name : List ℕ
     pub rest : List ℕ
     pub text : ts ≡ name ++ 10 ∷ rest
@@ -61,7 +61,7 @@ module _ (bs : List ℕ) (q : ℕ) where
     pub bytes : NameBytes name
     pub after : After n z l p rest
 
-  abbrev Rest : ℕ → List Bool → State → List ℕ → Type 0
+  abbrev pub Rest : ℕ → List Bool → State → List ℕ → Type 0
   Rest n z Start ts = Wrong n z ts
   Rest n z (Position l) ts = (v : ℕ) × (ds : List ℕ) × (rest : List ℕ) × Numeral v ds × (ts ≡ ds ++ 32 ∷ rest) × NamedWrong n z l v 0 rest
   Rest n z (Gap l p) ts = (rest : List ℕ) × (ts ≡ 32 ∷ rest) × NamedWrong n z l p 0 rest
