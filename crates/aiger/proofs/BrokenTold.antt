@@ -1,29 +1,38 @@
 -- A rule that is broken is told, on its line. Assumes nothing.
-use Rattle.std.proofs.Common.{◌≡◌, ℕ, zero, suc, ◌+◌, ◌*◌, ◌<◌, ◌≤◌, true, false, not, ◌||◌, eqb, ltb, leb, List, [], ◌∷◌, length, drop, replicate, Ok, Err, Result, sym, refl, ap, ◌∙◌, subst, arith}
+use Rattle.std.proofs.Common.{◌≡◌, ℕ, zero, suc, ◌+◌, ◌*◌, ◌<◌, ◌≤◌, true, false, not, ◌||◌, eqb, ltb, leb, List, [], ◌∷◌, length, drop, replicate, Ok, Err, Result, sym, ap, ◌∙◌, subst, arith}
 use Rattle.std.proofs.lemmas.List.{length-replicate}
-use Rattle.std.proofs.lemmas.Bool.{cond-true, cond-false, eqb-true, ltb-false, le-ltb, lt-ltb, false_from_ne_true, true_from_ne_false}
+use Rattle.std.proofs.lemmas.Bool.{cond-true, cond-false, eqb-true, ltb-false, le-ltb, false_from_ne_true, true_from_ne_false}
 use Rattle.std.proofs.lemmas.Bool.Decides.{nat_tests}
 use Rattle.circuit.specs.declared.reading.Reading.{Reading}
 use Rattle.circuit.specs.Limits.{max_inputs, max_gates}
 use Rattle.faults.specs.Reports.{max_file_bytes, rule_number}
-use Rattle.faults.specs.declared.text.TextFault.{TextFault}
 use Rattle.faults.specs.declared.circuit.Rule.{Rule}
 use Rattle.faults.specs.declared.circuit.Rule.TheVariants.{InputCount, LatchCount, OutputCount, GateCount, HighestVariable, GateTable, InputLine, OutputLiteral, GateLiteral, Operand, SymbolPosition}
 use Rattle.faults.specs.declared.circuit.CircuitFault.{CircuitFault}
 use Rattle.faults.specs.declared.circuit.CircuitFault.TheVariants.{Text, Broken}
-use Rattle.text.specs.Lines.{item_at}
+use Rattle.text.specs.Places.{line_of}
+use Rattle.text.specs.Runs.{next}
+use Rattle.std.specs.Result.{result_map_both}
+use Rattle.std.proofs.Math.Seq.{drop-append_seam}
+use Rattle.aiger.specs.Symbols.{slots, first, refused_at}
+use Rattle.aiger.specs.declared.states.SymbolFault.{SymbolFault}
+use Rattle.aiger.specs.declared.states.SymbolFault.TheVariants.{NoSlot}
+use Rattle.aiger.proofs.SymbolSteps.{ran}
 use Rattle.aiger.specs.FaultLines.{located_in}
-use Rattle.aiger.specs.Lines.{up, keep, Within, header_read, header_fits, inputs_at, output_at, gate_fits, wrote, gates_at}
+use Rattle.aiger.specs.Lines.{keep, header_fits, inputs_at, output_at, gate_fits, wrote, gates_at}
 use Rattle.aiger.specs.Reads.{Answer, lines_of, into_of, settled, read_of, rest_of, body_of}
-use Rattle.aiger.specs.Grammar.{NumberLine, HeaderLine, InputLines, GateLines}
-use Rattle.aiger.specs.Refused.{Keeps, HeaderBroken, UpToInputs, InputBroken, OutputBroken, UpToGates, GateBreaks, GateBroken}
-use Rattle.aiger.specs.declared.gates.Gate.{Gate}
+use Rattle.aiger.specs.Grammar.{NumberLine, InputLines, GateLines}
+use Rattle.aiger.specs.Refused.{Keeps, HeaderBroken, UpToInputs, InputBroken, OutputBroken, UpToGates, GateBreaks, GateBroken, SymbolBroken, BrokenBy, Told}
 use Rattle.aiger.specs.declared.header.Header.{Header}
 use Rattle.aiger.proofs.HeaderTexts.{header_read_lem, limits_read}
 use Rattle.aiger.proofs.NumberTexts.{number_line_read}
 use Rattle.aiger.proofs.LiteralTexts.{inputs_read, output_read}
-use Rattle.aiger.proofs.GateTexts.{gate_of, gate_read, fits_read}
-use Rattle.aiger.proofs.RefusedRules.{range_false, range_true, equal_false, equal_true, less_true, operands_true}
+use Rattle.aiger.proofs.GateTexts.{gate_of, gate_read, fits_read, filled, gates_read}
+use Rattle.aiger.proofs.RefusedRules.{range_false, range_true, equal_false, equal_true, less_true, lines_cut, refused_rule}
+use Rattle.aiger.proofs.Apart.{all_in, apart_free, breaks_taken}
+use Rattle.aiger.proofs.LineCounts.{at_place}
+use Rattle.aiger.proofs.SymbolsRefused.{Wrong}
+use Rattle.aiger.proofs.SymbolsTold.{symbols_lost}
 
 -- line 1
 
@@ -194,3 +203,58 @@ module _ (bs : List ℕ) (w : ℕ) where
       lost (λ e. e) g.0 g.1 _ _
       (gates_wrong b.gs h.gates h.inputs 0 p b.own b.g rule bs table b.here b.rest b.among (subst (λ (l : List ℕ). GateLines h.inputs 0 b.gs l b.here) (sym e) u.gates) b.numbers
       (subst (λ (d : ℕ). GateBreaks d b.own b.g rule) due b.breaks) ∙ (λ i. Err (Broken rule (line_is i)))))
+
+  -- the symbol lines refuse a position
+  symbol_lost : (h : Header) (output line q p : ℕ) (t : List ℕ) (g : List ℕ × Result ℕ CircuitFault) → line_of bs q ≡ line → g ≡ (t, Ok p)
+      → ran (length bs) bs (first p h.inputs) ≡ Err (NoSlot q) → (rest_of bs h output g).1 ≡ Err (Broken SymbolPosition line)
+  symbol_lost h output line q p t g line_is eg e =
+      let after : Result (Unit {0}) SymbolFault → Result Reading CircuitFault = λ r. next (result_map_both (λ u. u) (refused_at bs) r) (λ _. Ok (record { inputs = h.inputs; gates = h.gates; output = output })) in
+      ap (λ (x : Gates). (rest_of bs h output x).1) eg ∙ ap after e ∙ (λ i. Err (Broken SymbolPosition (line_is i)))
+
+  symbol_told : (line : ℕ) → SymbolBroken bs w line → (into_of bs table).1 ≡ Err (Broken SymbolPosition line)
+  symbol_told line b =
+      let h = b.h in
+      let u = b.before in
+      let limits = u.inputs.limits in
+      let v = all_in h.inputs b.symbols b.after_gates b.here b.lines in
+      let cut = lines_cut bs w h b.gs b.after_gates b.symbols b.s b.here b.rest u b.lines b.form in
+      let q = length cut.0 in
+      let end : drop q bs ≡ 10 ∷ b.rest = ap (drop q) cut.1 ∙ drop-append_seam cut.0 (10 ∷ b.rest) in
+      let count = at_place bs b.rest q 10 _ end cut in
+      let line_is : line_of bs q ≡ line = omega (arith, count, b.line_is, b.count) in
+      let wrong : Wrong bs q h.inputs (replicate slots false) b.after_gates = record {
+        symbols = b.symbols;
+        here = b.here;
+        rest = b.rest;
+        s = b.s;
+        lines = b.lines;
+        free = apart_free h.inputs b.symbols limits.inputs v b.apart;
+        form = b.form;
+        taken = breaks_taken h.inputs b.s b.symbols limits.inputs v b.breaks;
+        end = end;
+      } in
+      after_output h b.gs b.after_gates u _ (λ p e.
+      let g = gates_read b.gs h.inputs 0 p bs table b.after_gates (subst (λ (l : List ℕ). GateLines h.inputs 0 b.gs l b.after_gates) (sym e) u.gates) in
+      let gates : gates_at bs h.inputs 0 h.gates p table ≡ (filled table 0 b.gs, Ok g.0) = ap (λ (n : ℕ). gates_at bs h.inputs 0 n p table) (sym b.count) ∙ g.1 in
+      symbol_lost h u.output line q g.0 _ _ line_is gates (symbols_lost bs q g.0 h.inputs (subst (Wrong bs q h.inputs (replicate slots false)) (sym g.2) wrong)))
+
+  told : (rule : Rule) (line : ℕ) → BrokenBy bs w rule line → (into_of bs table).1 ≡ Err (Broken rule line)
+  told InputCount line b = header_told InputCount line b
+  told LatchCount line b = header_told LatchCount line b
+  told OutputCount line b = header_told OutputCount line b
+  told GateCount line b = header_told GateCount line b
+  told HighestVariable line b = header_told HighestVariable line b
+  told GateTable line b = header_told GateTable line b
+  told InputLine line b = input_told line b
+  told OutputLiteral line b = output_told line b
+  told GateLiteral line b = gate_told GateLiteral line b
+  told Operand line b = gate_told Operand line b
+  told SymbolPosition line b = symbol_told line b
+
+pub rules_told : (bs : List ℕ) (n : ℕ) (z : List ℕ) (r : Result Reading CircuitFault) → ◌≡◌ {A = Answer} (z, r) (read_of bs n) → Told bs n r
+rules_told bs n z r e =
+    let i = into_of bs (replicate n 0) in
+    record {
+      breaks = refused_rule bs n z r e;
+      tells = λ rule line b. ap (λ (a : Answer). a.1) e ∙ ap (λ (x : Result Reading CircuitFault). (settled n i.0 x).1) (told bs n rule line b);
+    }

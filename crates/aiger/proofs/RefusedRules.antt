@@ -19,8 +19,8 @@ use Rattle.aiger.specs.FaultLines.{located_at, located_in}
 use Rattle.aiger.specs.Lines.{up, keep, Within, header_read, header_fits, inputs_at, output_at, gate_at, gate_fits, gates_at}
 use Rattle.aiger.specs.Symbols.{slots, first, refused_at}
 use Rattle.aiger.specs.Reads.{Answer, lines_of, into_of, settled, read_of}
-use Rattle.aiger.specs.Grammar.{NumberLine, HeaderLine, InputLines, GateLines}
-use Rattle.aiger.specs.Refused.{Keeps, HeaderBroken, UpToInputs, UpToGates, GateBreaks, GateBroken, SymbolBroken, RuleBroken}
+use Rattle.aiger.specs.Grammar.{NumberLine, HeaderLine, InputLines, GateLines, Symbol, SymbolLines}
+use Rattle.aiger.specs.Refused.{SymbolForm, Keeps, HeaderBroken, UpToInputs, UpToGates, GateBreaks, GateBroken, SymbolBroken, BrokenBy}
 use Rattle.aiger.specs.declared.gates.Gate.{Gate}
 use Rattle.aiger.specs.declared.header.Header.{Header}
 use Rattle.aiger.specs.declared.states.SymbolFault.{SymbolFault}
@@ -32,8 +32,13 @@ use Rattle.aiger.proofs.LiteralTexts.{inputs_back, output_back}
 use Rattle.aiger.proofs.SymbolSteps.{ran}
 use Rattle.aiger.proofs.Apart.{all_in, free_apart, taken_breaks}
 use Rattle.aiger.proofs.SymbolsRefused.{Wrong, symbols_wrong}
-use Rattle.aiger.proofs.LineCounts.{join, line_cut, header_cut, inputs_cut, gates_cut, form_cut, symbols_cut, at_place}
+use Rattle.aiger.proofs.LineCounts.{Cut, join, line_cut, header_cut, inputs_cut, gates_cut, form_cut, symbols_cut, at_place}
 use Rattle.aiger.proofs.GateTexts.{gate_back, fits_back, gates_back}
+
+-- a fault is a rule that the file breaks, or one of the text
+abbrev RuleBroken : List ℕ → ℕ → CircuitFault → Type 0
+RuleBroken file words (Text located) = Unit {0}
+RuleBroken file words (Broken rule line) = BrokenBy file words rule line
 
 -- faults that are carried up
 
@@ -201,17 +206,24 @@ symbols_told : (P : CircuitFault → Type 0) (bs : List ℕ) (r : Result (Unit {
 symbols_told P bs (Ok u) x f = tt
 symbols_told P bs (Err e) x f = f e refl
 
+-- the lines up to the end of a symbol line
+pub lines_cut : (bs : List ℕ) (w : ℕ) (h : Header) (gs : List (ℕ × ℕ)) (after : List ℕ) (symbols : List Symbol) (s : Symbol) (here rest : List ℕ) → UpToGates bs w h gs after
+    → SymbolLines h.inputs symbols after here → SymbolForm s here rest → Cut bs (10 ∷ rest) (1 + (h.inputs + (1 + (length gs + (length symbols + 0)))))
+lines_cut bs w h gs after symbols s here rest g lines form =
+    let i = g.inputs in
+    join bs i.after_header (10 ∷ rest) _ _ (header_cut h bs i.after_header i.header)
+    (join i.after_header g.after_inputs (10 ∷ rest) _ _ (inputs_cut h.inputs 1 i.after_header g.after_inputs i.inputs)
+    (join g.after_inputs g.after_output (10 ∷ rest) _ _ (line_cut (g.output ∷ []) g.after_inputs g.after_output g.output_line)
+    (join g.after_output after (10 ∷ rest) _ _ (gates_cut gs h.inputs 0 g.after_output after g.gates)
+    (join after here (10 ∷ rest) _ _ (symbols_cut h.inputs symbols after here lines) (form_cut s here rest form)))))
+
 -- the line of a symbol whose position is refused
 symbol_line : (bs : List ℕ) (w : ℕ) (h : Header) (gs : List (ℕ × ℕ)) (after : List ℕ) (place : ℕ) → UpToGates bs w h gs after → length gs ≡ h.gates
     → Wrong bs place h.inputs (replicate slots false) after → SymbolBroken bs w (line_of bs place)
 symbol_line bs w h gs after place g count s =
     let i = g.inputs in
     let v = all_in h.inputs s.symbols after s.here s.lines in
-    let cut = join bs i.after_header (10 ∷ s.rest) _ _ (header_cut h bs i.after_header i.header)
-    (join i.after_header g.after_inputs (10 ∷ s.rest) _ _ (inputs_cut h.inputs 1 i.after_header g.after_inputs i.inputs)
-    (join g.after_inputs g.after_output (10 ∷ s.rest) _ _ (line_cut (g.output ∷ []) g.after_inputs g.after_output g.output_line)
-    (join g.after_output after (10 ∷ s.rest) _ _ (gates_cut gs h.inputs 0 g.after_output after g.gates)
-    (join after s.here (10 ∷ s.rest) _ _ (symbols_cut h.inputs s.symbols after s.here s.lines) (form_cut s.s s.here s.rest s.form))))) in
+    let cut = lines_cut bs w h gs after s.symbols s.s s.here s.rest g s.lines s.form in
     let before = at_place bs s.rest place 10 _ s.end cut in
     record {
       h = h;
@@ -298,7 +310,11 @@ settled_told : (P : CircuitFault → Type 0) (n : ℕ) (t : List ℕ) (r : Resul
 settled_told P n t (Ok x) h = tt
 settled_told P n t (Err e) h = h
 
-pub refused_rule : (bs : List ℕ) (n : ℕ) (z : List ℕ) (r : Result Reading CircuitFault) → ◌≡◌ {A = Answer} (z, r) (read_of bs n) → IfErr r (RuleBroken bs n)
-refused_rule bs n z r e =
+if_is : (P : CircuitFault → Type 0) (r : Result Reading CircuitFault) (e : CircuitFault) → r ≡ Err e → IfErr r P → P e
+if_is P r e same h = subst (λ (r : Result Reading CircuitFault). IfErr r P) same h
+
+pub refused_rule : (bs : List ℕ) (n : ℕ) (z : List ℕ) (r : Result Reading CircuitFault) → ◌≡◌ {A = Answer} (z, r) (read_of bs n)
+    → (rule : Rule) (line : ℕ) → r ≡ Err (Broken rule line) → BrokenBy bs n rule line
+refused_rule bs n z r e rule line same =
     let i = into_of bs (replicate n 0) in
-    subst (λ (a : Answer). IfErr a.1 (RuleBroken bs n)) (sym e) (settled_told (RuleBroken bs n) n i.0 i.1 (into_told bs n))
+    if_is (RuleBroken bs n) r (Broken rule line) same (subst (λ (a : Answer). IfErr a.1 (RuleBroken bs n)) (sym e) (settled_told (RuleBroken bs n) n i.0 i.1 (into_told bs n)))

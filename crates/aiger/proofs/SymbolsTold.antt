@@ -1,11 +1,11 @@
 -- A position that is too large or taken, after lines of the grammar, is refused by the symbol machine. Assumes nothing.
-use Rattle.std.proofs.Common.{◌≡◌, ℕ, zero, suc, ◌+◌, ◌-◌, ◌<◌, ◌≤◌, Bool, true, false, cond, eqb, ltb, List, [], ◌∷◌, ◌++◌, length, get_or, drop, set, replicate, None, Ok, Err, Result, sym, refl, ap, ◌∙◌, subst, inl, inr, ◌⊎◌, ⊎_elim, arith}
+use Rattle.std.proofs.Common.{◌≡◌, ℕ, zero, suc, ◌+◌, ◌-◌, ◌≤◌, Bool, true, false, eqb, ltb, List, [], ◌∷◌, ◌++◌, length, get_or, drop, set, replicate, None, Ok, Err, Result, sym, refl, ap, ◌∙◌, subst, inl, inr, ◌⊎◌, ⊎_elim, arith}
 use Rattle.std.proofs.lemmas.List.{length-drop}
 use Rattle.std.proofs.lemmas.Bool.Decides.{nat_tests}
 use Rattle.std.proofs.lemmas.Bool.{cond-true, cond-false, cases_Bool, eqb-true, ltb-true}
 use Rattle.text.specs.Classes.{class_of}
 use Rattle.text.specs.Runs.{next}
-use Rattle.aiger.specs.Symbols.{max_name, nameable, slots, slot_of, named, step_by, step_of, first}
+use Rattle.aiger.specs.Symbols.{max_name, slots, slot_of, named, step_by, step_of, first}
 use Rattle.aiger.specs.Grammar.{Symbol, letter_byte, InRange, NameBytes, SymbolLines}
 use Rattle.aiger.specs.Refused.{SymbolForm}
 use Rattle.aiger.specs.declared.states.Letter.{Letter}
@@ -20,7 +20,7 @@ use Rattle.aiger.proofs.Apart.{marks}
 use Rattle.aiger.proofs.SymbolSteps.{Step, going, ran}
 use Rattle.aiger.proofs.SymbolTexts.{place, Free, ended, slot_within}
 use Rattle.aiger.proofs.SymbolsRead.{mk, step_read, less, inside_of, at_byte, not_nil, named_step, line_step, place_step, numeral_first}
-use Rattle.aiger.proofs.SymbolsRefused.{Wrong, After, NamedWrong, Rest}
+use Rattle.aiger.proofs.SymbolsRefused.{Wrong, After, Rest}
 
 slot_cases : (n : ℕ) (l : Letter) (p : ℕ) → (slot_of l p n ≡ None) ⊎ InRange n l p
 slot_cases n Input p = ⊎_elim (λ t. inr (ltb-true p n t)) (λ f. inl (cond-false _ _ _ f)) (cases_Bool (ltb p n))

@@ -6,14 +6,16 @@
 --   up to gates    the same up to the output, and the lines of these gates
 --   broken         a line of the form that is due breaks the rule; here is the text that begins with it
 --   symbol form    a symbol line, whatever its position
---   rule broken    the fault is a rule that is broken in this way. Of a fault of the text nothing is said
-use Rattle.std.specs.Prelude.{◌≡◌, ℕ, ◌+◌, ◌*◌, ◌<◌, ◌≤◌, List, [], ◌∷◌, ◌++◌, length}
+--   told           an answer tells a rule and a line exactly when the file breaks that rule on that line in this way. Of the
+--                  faults of the text nothing is said but that they are told of no such file
+use Rattle.std.specs.Prelude.{◌≡◌, ℕ, ◌+◌, ◌*◌, ◌<◌, ◌≤◌, List, [], ◌∷◌, ◌++◌, length, Err, Result}
 use Rattle.circuit.specs.Limits.{max_inputs, max_gates}
+use Rattle.circuit.specs.declared.reading.Reading.{Reading}
 use Rattle.faults.specs.Reports.{max_file_bytes, rule_number}
 use Rattle.faults.specs.declared.circuit.Rule.{Rule}
 use Rattle.faults.specs.declared.circuit.Rule.TheVariants.{InputCount, LatchCount, OutputCount, GateCount, HighestVariable, GateTable, InputLine, OutputLiteral, GateLiteral, Operand, SymbolPosition}
 use Rattle.faults.specs.declared.circuit.CircuitFault.{CircuitFault}
-use Rattle.faults.specs.declared.circuit.CircuitFault.TheVariants.{Text, Broken}
+use Rattle.faults.specs.declared.circuit.CircuitFault.TheVariants.{Broken}
 use Rattle.aiger.specs.Lines.{Within}
 use Rattle.aiger.specs.Symbols.{max_name}
 use Rattle.aiger.specs.Grammar.{Numeral, NumberLine, HeaderLine, InputLines, GateLines, Symbol, letter_byte, InRange, NameBytes, SymbolLines, OtherThan, Apart}
@@ -149,6 +151,6 @@ BrokenBy file words GateLiteral line = GateBroken file words GateLiteral line
 BrokenBy file words Operand line = GateBroken file words Operand line
 BrokenBy file words SymbolPosition line = SymbolBroken file words line
 
-abbrev pub RuleBroken : List ℕ → ℕ → CircuitFault → Type 0
-RuleBroken file words (Text located) = Unit {0}
-RuleBroken file words (Broken rule line) = BrokenBy file words rule line
+pub record Told (file : List ℕ) (words : ℕ) (answer : Result Reading CircuitFault) : Type 0 where
+  pub breaks : (rule : Rule) (line : ℕ) → answer ≡ Err (Broken rule line) → BrokenBy file words rule line
+  pub tells : (rule : Rule) (line : ℕ) → BrokenBy file words rule line → answer ≡ Err (Broken rule line)

@@ -1,8 +1,8 @@
 // The whole file.
-ghost use Rattle.std.specs.Prelude.{◌≡◌, length, IfErr};
+ghost use Rattle.std.specs.Prelude.{◌≡◌, length};
 ghost use Rattle.aiger.specs.Reads.{into_of, read_of};
 ghost use Rattle.aiger.specs.Grammar.{Exactly};
-ghost use Rattle.aiger.specs.Refused.{RuleBroken};
+ghost use Rattle.aiger.specs.Refused.{Told};
 
 use crate::file::File;
 use crate::gates::gate_lines;
@@ -31,11 +31,11 @@ fn read_into(bytes: &[u8], table: &mut [u32]) -> Result<Reading, CircuitFault>
 }
 
 // Reads a circuit: its numbers, and two words a gate in the table, the larger operand first, with 0 in all further
-// words. Where the file is refused the whole table is 0.
+// words. Where the file is refused the whole table is 0, and a rule that is told is the first that the file breaks.
 pub fn read(file: &[u8], table: &mut [u32]) -> Result<Reading, CircuitFault>
     ensures value { (table.new, result) ≡ read_of file.now (length table.old) }
     ensures written { Exactly file.now (length table.old) table.new result }
-    ensures broken { IfErr result (λ e. RuleBroken file.now (length table.old) e) }
+    ensures told { Told file.now (length table.old) result }
 {
     table.fill(0);
     let answer = read_into(file, table);
