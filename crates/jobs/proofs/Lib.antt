@@ -5,6 +5,5 @@ mod Prints
 pub mod Circuits
 mod Tellings
 mod Compare
-mod GateRoom
 mod RunRoom
 mod Suffices

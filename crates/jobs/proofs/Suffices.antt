@@ -1,8 +1,10 @@
 -- The memory of a program's own suffices. Assumes nothing.
-use Rattle.std.proofs.Common.{◌≡◌, ℕ, ◌+◌, ◌*◌, ◌<◌, ◌≤◌, inl, inr, Bool, leb, ltb, List, ◌++◌, length, take, drop, Some, None, Ok, Err, IfErr, Option, Result, refl, sym, ◌∙◌, subst, arith, mul-le-mul, length-take, length-drop}
+use Rattle.std.proofs.Common.{◌≡◌, ℕ, ◌+◌, ◌*◌, ◌<◌, ◌≤◌, inl, inr, Bool, leb, ltb, List, ◌++◌, length, take, drop, Some, None, Ok, Err, IfErr, Option, Result, refl, sym, ap, ◌∙◌, subst, arith, mul-le-mul, length-take, length-drop}
 use Rattle.std.proofs.lemmas.Bool.{cond_both, cond-false, ltb-true, leb-true, le-ltb}
 use Rattle.std.proofs.lemmas.Result.{IfErr-at_err}
 use Rattle.std.proofs.lemmas.Bool.Decides.{nat_tests}
+use Rattle.faults.specs.declared.circuit.CircuitFault.{CircuitFault}
+use Rattle.faults.specs.declared.circuit.Rule.TheVariants.{GateCount, GateTable}
 use Rattle.faults.specs.declared.job.JobFault.{JobFault}
 use Rattle.faults.specs.declared.listing.ListingFault.{ListingFault}
 use Rattle.faults.specs.declared.listing.ListingFault.TheVariants.{Mode}
@@ -16,6 +18,8 @@ use Rattle.circuit.specs.Solutions.{solves}
 use Rattle.circuit.proofs.Room.{given}
 use Rattle.circuit.proofs.WordRows.{few_words}
 use Rattle.aiger.specs.Reads.{read_of}
+use Rattle.aiger.specs.Refused.{Told}
+use Rattle.aiger.proofs.BrokenTold.{rules_told}
 use Rattle.cubes.specs.declared.entry.Entry.{Entry}
 use Rattle.table.specs.Tables.{table_answer}
 use Rattle.listing.specs.declared.arity.Arity.{Arity}
@@ -30,7 +34,6 @@ use Rattle.listing.proofs.Arities.{arity_given}
 use Rattle.jobs.specs.Lists.{Outcome, Run, go_on, at_reading, at_deciding, at_listing, run_of, most_nexts, printed_text, run_text, rows_text, making_of, circuit_text}
 use Rattle.jobs.specs.Sizes.{enough, entry_count, text_bytes}
 use Rattle.jobs.specs.Suffices.{TableShort, Due, Suffices}
-use Rattle.jobs.proofs.GateRoom.{read_roomy}
 use Rattle.jobs.proofs.RunRoom.{Within, run_within}
 
 -- ---- a circuit that is taken up lies within the limits
@@ -48,6 +51,17 @@ taken_small r table =
     let limits : (1 ≤ r.inputs) × (r.inputs ≤ max_inputs) × (r.gates ≤ max_gates) = grind (arith, nat_tests) in
     record { some = limits.0; few = limits.1; room = omega (arith, limits.1, limits.2, length-take (2 * r.gates) table) })
     (λ _. record { some = omega arith; few = omega arith; room = omega arith })
+
+-- ---- a file that breaks the rule of the gate table has kept the one of the most gates
+
+read_roomy : (bs : List ℕ) (n : ℕ) → 2 * max_gates ≤ n → IfErr (read_of bs n).1 (λ e. TableShort e → ⊥)
+read_roomy bs n room = by (read_of bs n).1 (rules_told bs n _ _ refl)
+  where
+    by : (r : Result Reading CircuitFault) → Told bs n r → IfErr r (λ e. TableShort e → ⊥)
+    by (Ok reading) told = tt
+    by (Err e) told = λ short.
+        let broken = told.breaks GateTable short.0 (ap Err short.1) in
+        broken.breaks (omega (arith, room, broken.others GateCount (omega arith)))
 
 -- ---- a decider is made
 
