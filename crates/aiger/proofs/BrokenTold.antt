@@ -1,8 +1,10 @@
 -- A rule that is broken is told, on its line. Assumes nothing.
 use Rattle.std.proofs.Common.{◌≡◌, ℕ, zero, suc, ◌+◌, ◌*◌, ◌<◌, ◌≤◌, true, false, not, ◌||◌, eqb, ltb, leb, List, [], ◌∷◌, length, drop, replicate, Ok, Err, Result, sym, ap, ◌∙◌, subst, arith}
+use Rattle.std.specs.Result.{result_map_both}
 use Rattle.std.proofs.lemmas.List.{length-replicate}
 use Rattle.std.proofs.lemmas.Bool.{cond-true, cond-false, eqb-true, ltb-false, le-ltb, false_from_ne_true, true_from_ne_false}
 use Rattle.std.proofs.lemmas.Bool.Decides.{nat_tests}
+use Rattle.std.proofs.Math.Seq.{drop-append_seam}
 use Rattle.circuit.specs.declared.reading.Reading.{Reading}
 use Rattle.circuit.specs.Limits.{max_inputs, max_gates}
 use Rattle.faults.specs.Reports.{max_file_bytes, rule_number}
@@ -12,18 +14,16 @@ use Rattle.faults.specs.declared.circuit.CircuitFault.{CircuitFault}
 use Rattle.faults.specs.declared.circuit.CircuitFault.TheVariants.{Text, Broken}
 use Rattle.text.specs.Places.{line_of}
 use Rattle.text.specs.Runs.{next}
-use Rattle.std.specs.Result.{result_map_both}
-use Rattle.std.proofs.Math.Seq.{drop-append_seam}
+use Rattle.aiger.specs.FaultLines.{located_in}
+use Rattle.aiger.specs.Lines.{keep, header_fits, inputs_at, output_at, gate_fits, wrote, gates_at}
 use Rattle.aiger.specs.Symbols.{slots, first, refused_at}
 use Rattle.aiger.specs.declared.states.SymbolFault.{SymbolFault}
 use Rattle.aiger.specs.declared.states.SymbolFault.TheVariants.{NoSlot}
-use Rattle.aiger.proofs.SymbolSteps.{ran}
-use Rattle.aiger.specs.FaultLines.{located_in}
-use Rattle.aiger.specs.Lines.{keep, header_fits, inputs_at, output_at, gate_fits, wrote, gates_at}
 use Rattle.aiger.specs.Reads.{Answer, lines_of, into_of, settled, read_of, rest_of, body_of}
 use Rattle.aiger.specs.Grammar.{NumberLine, InputLines, GateLines}
 use Rattle.aiger.specs.Refused.{Keeps, HeaderBroken, UpToInputs, InputBroken, OutputBroken, UpToGates, GateBreaks, GateBroken, SymbolBroken, BrokenBy, Told}
 use Rattle.aiger.specs.declared.header.Header.{Header}
+use Rattle.aiger.proofs.SymbolSteps.{ran}
 use Rattle.aiger.proofs.HeaderTexts.{header_read_lem, limits_read}
 use Rattle.aiger.proofs.NumberTexts.{number_line_read}
 use Rattle.aiger.proofs.LiteralTexts.{inputs_read, output_read}
@@ -36,21 +36,21 @@ use Rattle.aiger.proofs.SymbolsTold.{symbols_lost}
 
 -- line 1
 
+equal_kept : (a b : ℕ) → a ≡ b → not (eqb a b) ≡ false
+equal_kept a b k = false_from_ne_true _ (λ e. equal_true a b e k)
+
+equal_wrong : (a b : ℕ) → (a ≡ b → ⊥) → not (eqb a b) ≡ true
+equal_wrong a b k = true_from_ne_false _ (λ e. k (equal_false a b e))
+
+less_kept : (a b : ℕ) → b ≤ a → ltb a b ≡ false
+less_kept a b k = false_from_ne_true _ (λ e. less_true a b e k)
+
+less_wrong : (a b : ℕ) → (b ≤ a → ⊥) → ltb a b ≡ true
+less_wrong a b k = true_from_ne_false _ (λ e. k (ltb-false a b e))
+
 module _ (h : Header) (w : ℕ) where
   input_kept : Keeps h w InputCount → (ltb h.inputs 1 || ltb max_inputs h.inputs) ≡ false
   input_kept k = false_from_ne_true _ (λ e. range_true h.inputs e k)
-
-  equal_kept : (a b : ℕ) → a ≡ b → not (eqb a b) ≡ false
-  equal_kept a b k = false_from_ne_true _ (λ e. equal_true a b e k)
-
-  equal_wrong : (a b : ℕ) → (a ≡ b → ⊥) → not (eqb a b) ≡ true
-  equal_wrong a b k = true_from_ne_false _ (λ e. k (equal_false a b e))
-
-  less_kept : (a b : ℕ) → b ≤ a → ltb a b ≡ false
-  less_kept a b k = false_from_ne_true _ (λ e. less_true a b e k)
-
-  less_wrong : (a b : ℕ) → (b ≤ a → ⊥) → ltb a b ≡ true
-  less_wrong a b k = true_from_ne_false _ (λ e. k (ltb-false a b e))
 
   header_wrong : (rule : Rule) → (Keeps h w rule → ⊥) → ((other : Rule) → rule_number other < rule_number rule → Keeps h w other) → header_fits h w ≡ Err (Broken rule 1)
   header_wrong InputCount b o = cond-true _ _ _ (true_from_ne_false _ (λ e. b (range_false h.inputs e)))

@@ -6,8 +6,8 @@
 --   up to gates    the same up to the output, and the lines of these gates
 --   broken         a line of the form that is due breaks the rule; here is the text that begins with it
 --   symbol form    a symbol line, whatever its position
---   told           an answer tells a rule and a line exactly when the file breaks that rule on that line in this way. Of the
---                  faults of the text nothing is said but that they are told of no such file
+--   told           an answer tells a rule and a line exactly when the file breaks that rule on that line in this way. Of a
+--                  fault of the text it says only that no such file gets one
 use Rattle.std.specs.Prelude.{◌≡◌, ℕ, ◌+◌, ◌*◌, ◌<◌, ◌≤◌, List, [], ◌∷◌, ◌++◌, length, Err, Result}
 use Rattle.circuit.specs.Limits.{max_inputs, max_gates}
 use Rattle.circuit.specs.declared.reading.Reading.{Reading}
