@@ -1,15 +1,17 @@
 // The file on standard input.
-ghost use Rattle.std.specs.Prelude.{◌≡◌, ◌+◌, if◌then◌else◌, Ok, Err, nat_lt};
+ghost use Rattle.std.specs.Prelude.{◌≡◌, ◌+◌, if◌then◌else◌, Ok, Err, IfErr, nat_lt};
 ghost use Rattle.faults.specs.Reports.{max_file_bytes};
-ghost use Rattle.shell.specs.declared.failure.Failure.TheVariants.{Usage};
+ghost use Rattle.shell.specs.declared.failure.Failure.TheVariants.{Usage, Refused};
 
 use crate::Failure;
 use faults::MAX_FILE_BYTES;
 use std::env;
 use std::io::Read;
 
-// The file's bytes. A program takes no argument.
-pub fn read_file(rt: &HostRuntime) -> Result<Vec<u8>, Failure> {
+// The file's bytes. A program takes no argument. No failure here is one that would have been told already.
+pub fn read_file(rt: &HostRuntime) -> Result<Vec<u8>, Failure>
+    ensures { IfErr result (λ failure. failure ≡ Refused → ⊥) }
+{
     check_words(env::args(rt)?.count())?;
     let mut file = Vec::new(rt.alloc());
     rt.stdin().take(most_bytes()).read_to_end(&mut file)?;
