@@ -7,7 +7,7 @@ use Rattle.aiger.specs.Symbols.{slots}
 use Rattle.aiger.specs.Grammar.{Symbol, InRange, SymbolLines, OtherThan, Apart}
 use Rattle.aiger.specs.declared.states.Letter.{Letter}
 use Rattle.aiger.specs.declared.states.Letter.TheVariants.{Input, Output}
-use Rattle.aiger.proofs.SymbolTexts.{place, Free}
+use Rattle.aiger.proofs.SymbolTexts.{place, Free, marks}
 
 abbrev at : Symbol → ℕ
 at s = place s.letter s.position
@@ -75,11 +75,6 @@ apart_free n ss h w a = free_read n (replicate slots false) ss h w (unmarked n s
 
 pub free_apart : (n : ℕ) (ss : List Symbol) → n ≤ max_inputs → AllIn n ss → Free (replicate slots false) ss → Apart ss
 free_apart n ss h w f = (free_back n (replicate slots false) ss h refl w f).1
-
--- the marks after the lines of these symbols
-abbrev pub marks : List Bool → List Symbol → List Bool
-marks z [] = z
-marks z (s ∷ ss) = marks (set z (at s) true) ss
 
 -- a position that no symbol has is not marked by them
 marks_other : (n : ℕ) (z : List Bool) (s : Symbol) (ss : List Symbol) → n ≤ max_inputs → InRange n s.letter s.position → AllIn n ss → OtherThan s ss → get_or (marks z ss) (at s) false ≡ get_or z (at s) false

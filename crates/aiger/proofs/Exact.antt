@@ -1,5 +1,6 @@
 -- The file is accepted exactly when it is a written circuit, and the answer is what is written. Assumes nothing.
-use Rattle.std.proofs.Common.{◌≡◌, ℕ, ◌*◌, ◌≤◌, Bool, true, false, cond, ltb, List, [], ◌∷◌, length, drop, replicate, Ok, Err, Result, sym, refl, ap, ◌∙◌, subst, arith}
+use Rattle.std.proofs.Common.{◌≡◌, ℕ, ◌*◌, ◌≤◌, Bool, true, false, cond, ltb, List, [], ◌∷◌, length, drop, replicate, Ok, Err, Result, sym, refl, ap, ◌∙◌, subst, inl, arith}
+use Rattle.std.specs.Result.{result_map_both}
 use Rattle.std.proofs.lemmas.List.{length-replicate}
 use Rattle.std.proofs.lemmas.Bool.{ltb-false}
 use Rattle.circuit.specs.declared.reading.Reading.{Reading}
@@ -9,14 +10,14 @@ use Rattle.faults.specs.declared.circuit.CircuitFault.TheVariants.{Text}
 use Rattle.text.proofs.Answers.{next_ok, ok_same}
 use Rattle.aiger.specs.FaultLines.{too_long, located_at, located_in}
 use Rattle.aiger.specs.Lines.{Within, header_read, header_fits, inputs_at, output_at, gates_at}
-use Rattle.aiger.specs.Symbols.{slots, symbols_at}
+use Rattle.aiger.specs.Symbols.{slots, refused_at, symbols_at}
 use Rattle.aiger.specs.Reads.{Answer, lines_of, into_of, settled, read_of}
 use Rattle.aiger.specs.Grammar.{NumberLine, InputLines, GateLines, SymbolLines, Written, gate_table, Exactly}
 use Rattle.aiger.proofs.Carried.{keep_ok, told_ok}
 use Rattle.aiger.proofs.HeaderTexts.{header_read_lem, header_back, limits_read, limits_back}
 use Rattle.aiger.proofs.LiteralTexts.{inputs_read, inputs_back, output_read, output_back}
 use Rattle.aiger.proofs.GateTexts.{gates_read, gates_back, table_is}
-use Rattle.aiger.proofs.SymbolTexts.{Lines}
+use Rattle.aiger.proofs.SymbolTexts.{Accepted, Lines, ending_of}
 use Rattle.aiger.proofs.SymbolsBack.{symbols_back}
 use Rattle.aiger.proofs.SymbolsRead.{symbols_read}
 use Rattle.aiger.proofs.Apart.{all_in, apart_free, free_apart}
@@ -33,13 +34,14 @@ into_read bs n r gs w =
     let ei = inputs_read h.inputs 1 eh.0 bs w.after_inputs (subst (λ (l : List ℕ). InputLines 1 h.inputs l w.after_inputs) (sym eh.2) w.inputs) in
     let eo = output_read bs ei.0 r.output h.highest h.inputs w.after_output w.output_below (subst (λ (l : List ℕ). NumberLine (r.output ∷ []) l w.after_output) (sym ei.2) w.output) in
     let eg = gates_read gs h.inputs 0 eo.0 bs t w.after_gates (subst (λ (l : List ℕ). GateLines h.inputs 0 gs l w.after_gates) (sym eo.2) w.gates) in
-    let lines : Lines h.inputs (replicate slots false) (drop eg.0 bs) = record {
+    let lines : Lines bs Accepted h.inputs (replicate slots false) (drop eg.0 bs) = record {
       symbols = w.symbols;
-      rest = w.rest;
+      here = w.rest;
       lines = subst (λ (l : List ℕ). SymbolLines h.inputs w.symbols l w.rest) (sym eg.2) w.lines;
       free = apart_free h.inputs w.symbols w.limits.inputs (all_in h.inputs w.symbols w.after_gates w.rest w.lines) w.apart;
-      ending = w.ending;
+      last = inl (tt, w.ending);
     } in
+    let symbols : symbols_at bs eg.0 h.inputs ≡ Ok tt = ap (result_map_both (λ u. u) (refused_at bs)) (symbols_read bs Accepted eg.0 h.inputs lines) in
     let gates : ◌≡◌ {A = List ℕ × Result ℕ CircuitFault} (gates_at bs h.inputs 0 h.gates eo.0 t) (gate_table n gs, Ok eg.0) =
     ap (λ (k : ℕ). gates_at bs h.inputs 0 k eo.0 t) (sym w.count) ∙ eg.1 ∙ (λ j. (table_is gs n room j, Ok eg.0)) in
     till_gates bs t h eh.0 ei.0 (r.output, eo.0) tt w.few
@@ -47,7 +49,7 @@ into_read bs n r gs w =
     (sym (ap (header_fits h) (length-replicate n 0) ∙ limits_read h n w.limits))
     (sym ei.1) (sym eo.1)
     ∙ past_gates bs (gate_table n gs) h r.output eg.0 _ (sym gates)
-    ∙ symbols_good bs (gate_table n gs) h r.output eg.0 tt (sym (symbols_read bs eg.0 h.inputs lines))
+    ∙ symbols_good bs (gate_table n gs) h r.output eg.0 tt (sym symbols)
     ∙ (λ j. (gate_table n gs, Ok (record { inputs = sym w.inputs_is j; gates = sym w.gates_is j; output = r.output })))
 
 -- what is read is a written circuit
@@ -73,7 +75,7 @@ into_back bs n r z e =
     let lim : Within h n = limits_back h n b.0 (sym (ap (header_fits h) (length-replicate n 0)) ∙ b.1) in
     let bo = output_back bs c.0 h.highest h.inputs d.0 d.1 in
     let bg = gates_back h.gates h.inputs 0 d.0.1 f.0 bs t g.0 (λ j. (g.0, f.1 j)) in
-    let sy = symbols_back bs f.0 h.inputs s.0 s.1 in
+    let sy = symbols_back bs Accepted f.0 h.inputs (told_ok (refused_at bs) _ s.0 s.1) in
     let gs = bg.0 in
     let room : 2 * length gs ≤ n = omega (arith, bg.1, lim.room) in (
       gs,
@@ -90,15 +92,15 @@ into_back bs n r z e =
             after_inputs = drop c.0 bs;
             after_output = drop d.0.1 bs;
             after_gates = drop f.0 bs;
-            rest = sy.rest;
+            rest = sy.here;
             symbols = sy.symbols;
             header = header_back bs a.0 (told_ok (located_at bs) _ _ a.1);
             inputs = inputs_back h.inputs 1 a.0.1 c.0 bs c.1;
             output = bo.1;
             gates = bg.2;
             lines = sy.lines;
-            apart = free_apart h.inputs sy.symbols lim.inputs (all_in h.inputs sy.symbols (drop f.0 bs) sy.rest sy.lines) sy.free;
-            ending = sy.ending;
+            apart = free_apart h.inputs sy.symbols lim.inputs (all_in h.inputs sy.symbols (drop f.0 bs) sy.here sy.lines) sy.free;
+            ending = ending_of bs h.inputs (replicate slots false) (drop f.0 bs) sy;
           }),
       sym is_z ∙ bg.3 ∙ table_is gs n room,
     )

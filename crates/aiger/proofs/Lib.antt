@@ -10,8 +10,6 @@ pub mod SymbolsRead
 pub mod Apart
 pub mod Whole
 pub mod Exact
-pub mod SymbolsRefused
 pub mod LineCounts
 pub mod RefusedRules
-pub mod SymbolsTold
 pub mod BrokenTold

@@ -31,7 +31,8 @@ use Rattle.aiger.proofs.NumberTexts.{number_line_back}
 use Rattle.aiger.proofs.LiteralTexts.{inputs_back, output_back}
 use Rattle.aiger.proofs.SymbolSteps.{ran}
 use Rattle.aiger.proofs.Apart.{all_in, free_apart, taken_breaks}
-use Rattle.aiger.proofs.SymbolsRefused.{Wrong, symbols_wrong}
+use Rattle.aiger.proofs.SymbolTexts.{Refused, Lines, last_of}
+use Rattle.aiger.proofs.SymbolsBack.{symbols_back}
 use Rattle.aiger.proofs.LineCounts.{Cut, join, line_cut, header_cut, inputs_cut, gates_cut, form_cut, symbols_cut, at_place}
 use Rattle.aiger.proofs.GateTexts.{gate_back, fits_back, gates_back}
 
@@ -219,26 +220,27 @@ lines_cut bs w h gs after symbols s here rest g lines form =
 
 -- the line of a symbol whose position is refused
 symbol_line : (bs : List ℕ) (w : ℕ) (h : Header) (gs : List (ℕ × ℕ)) (after : List ℕ) (place : ℕ) → UpToGates bs w h gs after → length gs ≡ h.gates
-    → Wrong bs place h.inputs (replicate slots false) after → SymbolBroken bs w (line_of bs place)
+    → Lines bs (Refused place) h.inputs (replicate slots false) after → SymbolBroken bs w (line_of bs place)
 symbol_line bs w h gs after place g count s =
     let i = g.inputs in
     let v = all_in h.inputs s.symbols after s.here s.lines in
-    let cut = lines_cut bs w h gs after s.symbols s.s s.here s.rest g s.lines s.form in
-    let before = at_place bs s.rest place 10 _ s.end cut in
+    let last = last_of bs place h.inputs (replicate slots false) after s in
+    let cut = lines_cut bs w h gs after s.symbols last.s s.here last.rest g s.lines last.form in
+    let before = at_place bs last.rest place 10 _ last.taken.1 cut in
     record {
       h = h;
       gs = gs;
       symbols = s.symbols;
-      s = s.s;
+      s = last.s;
       after_gates = after;
       here = s.here;
-      rest = s.rest;
+      rest = last.rest;
       before = g;
       count = count;
       lines = s.lines;
       apart = free_apart h.inputs s.symbols i.limits.inputs v s.free;
-      form = s.form;
-      breaks = taken_breaks h.inputs s.s s.symbols i.limits.inputs v s.taken;
+      form = last.form;
+      breaks = taken_breaks h.inputs last.s s.symbols i.limits.inputs v last.taken.0;
       line_is = omega (arith, before, count);
     }
 
@@ -246,7 +248,7 @@ symbol_line bs w h gs after place g count s =
 symbol_told : (bs : List ℕ) (w : ℕ) (h : Header) (gs : List (ℕ × ℕ)) (p : ℕ) → UpToGates bs w h gs (drop p bs) → length gs ≡ h.gates
     → (e : SymbolFault) → ran (length bs) bs (first p h.inputs) ≡ Err e → RuleBroken bs w (refused_at bs e)
 symbol_told bs w h gs p g count (SymbolText e) r = tt
-symbol_told bs w h gs p g count (NoSlot place) r = symbol_line bs w h gs (drop p bs) place g count (symbols_wrong bs place p h.inputs r)
+symbol_told bs w h gs p g count (NoSlot place) r = symbol_line bs w h gs (drop p bs) place g count (symbols_back bs (Refused place) p h.inputs r)
 
 module _ (bs : List ℕ) (w : ℕ) (few : length bs ≤ max_file_bytes) where
   lines_told : (t : List ℕ) → length t ≡ w → IfErr (lines_of bs t).1 (RuleBroken bs w)
