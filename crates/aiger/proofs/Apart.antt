@@ -21,7 +21,7 @@ AllIn n (s ∷ ss) = InRange n s.letter s.position × AllIn n ss
 
 pub all_in : (n : ℕ) (ss : List Symbol) (ts rest : List ℕ) → SymbolLines n ss ts rest → AllIn n ss
 all_in n [] ts rest e = tt
-all_in n (s ∷ ss) ts rest (mid, line, more) = (line.range, all_in n ss mid rest more)
+all_in n (s ∷ ss) ts rest (mid, line, more) = (line.0, all_in n ss mid rest more)
 
 place_low : (n : ℕ) (l : Letter) (p : ℕ) → n ≤ max_inputs → InRange n l p → place l p < slots
 place_low n Input p h w = omega arith

@@ -8,8 +8,7 @@ use Rattle.std.proofs.Math.Seq.{take-append_seam}
 use Rattle.text.specs.Numbers.{AllDigits}
 use Rattle.text.specs.Places.{newlines}
 use Rattle.text.proofs.Bytes.{newline_only}
-use Rattle.aiger.specs.Grammar.{Numeral, NumberLine, HeaderLine, InputLines, GateLines, Symbol, letter_byte, NameBytes, SymbolLine, SymbolLines}
-use Rattle.aiger.specs.Refused.{SymbolForm}
+use Rattle.aiger.specs.Grammar.{Numeral, NumberLine, HeaderLine, InputLines, GateLines, Symbol, letter_byte, NameBytes, SymbolForm, SymbolLines}
 use Rattle.aiger.specs.declared.header.Header.{Header}
 use Rattle.aiger.specs.declared.states.Letter.{Letter}
 use Rattle.aiger.specs.declared.states.Letter.TheVariants.{Input, Output}
@@ -81,13 +80,10 @@ form_cut s ts rest f =
     join ts (f.ds ++ 32 ∷ mid) (10 ∷ rest) 0 0 (letter_byte s.letter ∷ [], f.text, letter_none s.letter)
     (join (f.ds ++ 32 ∷ mid) mid (10 ∷ rest) 0 0 (item_cut s.position 32 f.ds _ mid 0 f.position refl refl) (s.name, refl, name_none s.name f.bytes))
 
-form_of : (n : ℕ) (s : Symbol) (ts rest : List ℕ) → SymbolLine n s ts rest → SymbolForm s ts rest
-form_of n s ts rest l = record { ds = l.ds; position = l.position; some = l.some; few = l.few; bytes = l.bytes; text = l.text }
-
 pub symbols_cut : (n : ℕ) (ss : List Symbol) (ts rest : List ℕ) → SymbolLines n ss ts rest → Cut ts rest (length ss)
 symbols_cut n [] ts rest e = ([], e, refl)
 symbols_cut n (s ∷ ss) ts rest (mid, line, more) =
-    join_is ts mid rest 1 (length ss) (suc (length ss)) (omega arith) (join ts (10 ∷ mid) mid 0 1 (form_cut s ts mid (form_of n s ts mid line)) (one_byte 10 mid 1 refl)) (symbols_cut n ss mid rest more)
+    join_is ts mid rest 1 (length ss) (suc (length ss)) (omega arith) (join ts (10 ∷ mid) mid 0 1 (form_cut s ts mid line.1) (one_byte 10 mid 1 refl)) (symbols_cut n ss mid rest more)
 
 -- the newlines before the place where a byte stands
 pub at_place : (bs rest : List ℕ) (p x n : ℕ) → drop p bs ≡ x ∷ rest → Cut bs (x ∷ rest) n → newlines (take p bs) ≡ n

@@ -4,8 +4,7 @@ use Rattle.std.proofs.lemmas.Bool.Decides.{nat_tests}
 use Rattle.std.proofs.lemmas.Bool.{cond-false, cases_Bool, eqb-true, ltb-true}
 use Rattle.circuit.specs.Limits.{max_inputs}
 use Rattle.aiger.specs.Symbols.{max_name, slot_of}
-use Rattle.aiger.specs.Grammar.{Numeral, Symbol, InRange, NameBytes, SymbolLine, SymbolLines, Ending}
-use Rattle.aiger.specs.Refused.{SymbolForm}
+use Rattle.aiger.specs.Grammar.{Numeral, Symbol, InRange, NameBytes, SymbolForm, SymbolLines, Ending}
 use Rattle.aiger.specs.declared.states.Letter.{Letter}
 use Rattle.aiger.specs.declared.states.Letter.TheVariants.{Input, Output}
 use Rattle.aiger.specs.declared.states.State.{State}
@@ -103,10 +102,6 @@ ending_of bs n z ts r = ⊎_elim (λ a. a.1) (λ a. absurd a.taken) r.last
 
 pub last_of : (bs : List ℕ) (q n : ℕ) (z : List Bool) (ts : List ℕ) (r : Lines bs (Refused q) n z ts) → Last bs (Refused q) n (marks z r.symbols) r.here
 last_of bs q n z ts r = ⊎_elim (λ a. absurd a.0) (λ a. a) r.last
-
--- the form of an accepted line
-pub form_of : (n : ℕ) (s : Symbol) (ts rest : List ℕ) → SymbolLine n s ts rest → SymbolForm s ts rest
-form_of n s ts rest line = record { ds = line.ds; position = line.position; some = line.some; few = line.few; bytes = line.bytes; text = line.text }
 
 -- slots
 

@@ -13,7 +13,7 @@ use Rattle.text.proofs.Bytes.{newline_byte, blank_byte}
 use Rattle.text.proofs.Runs.{past_end, inside}
 use Rattle.aiger.specs.Symbols.{max_name, nameable, slots, slot_of, starts, placed, longer, marked, named, step_by, step_of, free, is_done, is_over, end_of, first}
 use Rattle.aiger.specs.Lines.{up}
-use Rattle.aiger.specs.Grammar.{Symbol, letter_byte, InRange}
+use Rattle.aiger.specs.Grammar.{Symbol, letter_byte, InRange, SymbolForm}
 use Rattle.aiger.specs.declared.states.Letter.{Letter}
 use Rattle.aiger.specs.declared.states.Letter.TheVariants.{Input, Output}
 use Rattle.aiger.specs.declared.states.State.{State}
@@ -60,13 +60,15 @@ module _ (bs : List ℕ) (v : Verdict) where
       let s : Symbol = record { letter = l; position = p; name = named.name } in
       let text : letter_byte l ∷ ts ≡ letter_byte l ∷ (ds ++ 32 ∷ (named.name ++ 10 ∷ named.rest)) =
       ap (λ (x : List ℕ). letter_byte l ∷ x) (e ∙ ap (λ (x : List ℕ). ds ++ 32 ∷ x) named.text) in
+      let form : SymbolForm s (letter_byte l ∷ ts) named.rest =
+      record { ds = ds; position = num; some = omega (arith, named.some); few = omega (arith, named.few); bytes = named.bytes; text = text } in
       ⊎_elim
       (λ a. record {
         symbols = s ∷ a.2.symbols;
         here = a.2.here;
         lines = (
           named.rest,
-          record { ds = ds; position = num; range = a.0; some = omega (arith, named.some); few = omega (arith, named.few); bytes = named.bytes; text = text },
+          (a.0, form),
           a.2.lines,
         );
         free = (a.1, a.2.free);
@@ -80,7 +82,7 @@ module _ (bs : List ℕ) (v : Verdict) where
         last = inr (record {
           s = s;
           rest = named.rest;
-          form = record { ds = ds; position = num; some = omega (arith, named.some); few = omega (arith, named.few); bytes = named.bytes; text = text };
+          form = form;
           taken = taken;
         });
       })

@@ -10,8 +10,7 @@ use Rattle.text.specs.Numbers.{number_at}
 use Rattle.text.specs.Runs.{next}
 use Rattle.text.proofs.Bytes.{newline_byte, digit_class}
 use Rattle.aiger.specs.Symbols.{max_name, nameable, slots, moved, placed, named, step_by, step_of, free, is_over, first}
-use Rattle.aiger.specs.Grammar.{Numeral, Symbol, letter_byte, InRange, NameBytes, SymbolLines, Ending}
-use Rattle.aiger.specs.Refused.{SymbolForm}
+use Rattle.aiger.specs.Grammar.{Numeral, Symbol, letter_byte, InRange, NameBytes, SymbolForm, SymbolLines, Ending}
 use Rattle.aiger.specs.declared.states.Letter.{Letter}
 use Rattle.aiger.specs.declared.states.Letter.TheVariants.{Input, Output}
 use Rattle.aiger.specs.declared.states.State.{State}
@@ -22,7 +21,7 @@ use Rattle.aiger.specs.declared.symbols.SymbolMachine.{SymbolMachine}
 use Rattle.aiger.proofs.NumberTexts.{number_read, first_of, one_on}
 use Rattle.text.proofs.Runs.{past_end}
 use Rattle.aiger.proofs.SymbolSteps.{Step, going, ran, forward}
-use Rattle.aiger.proofs.SymbolTexts.{Verdict, Accepted, Refused, answer, Accepts, place, Free, marks, Taken, Last, Lines, After, Rest, ended, accepted, form_of, slot_within, slot_cases}
+use Rattle.aiger.proofs.SymbolTexts.{Verdict, Accepted, Refused, answer, Accepts, place, Free, marks, Taken, Last, Lines, After, Rest, ended, accepted, slot_within, slot_cases}
 
 abbrev mk : State → ℕ → ℕ → List Bool → SymbolMachine
 mk s p n z = record { state = s; at = p; inputs = n; seen = z }
@@ -134,8 +133,8 @@ module _ (bs : List ℕ) (v : Verdict) where
     fore_start p n z [] here h e unmarked (inl (good, end)) = fore_ending p n z h good (subst Ending (sym e) end)
     fore_start p n z [] here h e unmarked (inr last) = fore_line p n z last.s last.rest h (subst (λ (ts : List ℕ). SymbolForm last.s ts last.rest) (sym e) last.form) (inr last.taken)
     fore_start p n z (s ∷ ss) here h (mid, line, lines) (new, others) last =
-        fore_line p n z s mid h (form_of n s (drop p bs) mid line)
-        (inl (line.range, new, record { symbols = ss; here = here; lines = lines; free = others; last = last }))
+        fore_line p n z s mid h line.1
+        (inl (line.0, new, record { symbols = ss; here = here; lines = lines; free = others; last = last }))
 
     fore_end : (l : Letter) (o k p n : ℕ) (z : List Bool) (rest : List ℕ) → length bs - p ≤ suc f → drop p bs ≡ 10 ∷ rest → 1 ≤ k → After bs v n z l o rest → ran (suc f) bs (mk (Name l o k) p n z) ≡ answer v
     fore_end l o k p n z rest h e some (inl (range, free, more)) =
@@ -172,7 +171,7 @@ module _ (bs : List ℕ) (v : Verdict) where
   fore_past : (p n : ℕ) (z : List Bool) → length bs - p ≤ 0 → (ss : List Symbol) (here : List ℕ) → SymbolLines n ss (drop p bs) here → (Accepts v × Ending here) ⊎ Last bs v n (marks z ss) here → Ok tt ≡ answer v
   fore_past p n z h [] here e (inl (good, end)) = accepted v good
   fore_past p n z h [] here e (inr last) = absurd (not_nil bs [] _ p _ h (e ∙ last.form.text))
-  fore_past p n z h (s ∷ ss) here (mid, line, lines) last = absurd (not_nil bs [] _ p _ h line.text)
+  fore_past p n z h (s ∷ ss) here (mid, line, lines) last = absurd (not_nil bs [] _ p _ h line.1.text)
 
   fore : (f : ℕ) → Fore f
   fore zero Start p n z h r = fore_past p n z h r.symbols r.here r.lines r.last

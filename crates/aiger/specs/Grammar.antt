@@ -68,14 +68,17 @@ abbrev pub NameBytes : List ℕ → Type 0
 NameBytes [] = Unit {0}
 NameBytes (b ∷ bs) = (nameable (class_of b) ≡ true) × NameBytes bs
 
-pub record SymbolLine (n : ℕ) (s : Symbol) (ts rest : List ℕ) : Type 0 where
+-- a symbol line, whatever its position
+pub record SymbolForm (s : Symbol) (ts rest : List ℕ) : Type 0 where
   pub ds : List ℕ
   pub position : Numeral s.position ds
-  pub range : InRange n s.letter s.position
   pub some : 1 ≤ length s.name
   pub few : length s.name ≤ max_name
   pub bytes : NameBytes s.name
   pub text : ts ≡ letter_byte s.letter ∷ (ds ++ 32 ∷ (s.name ++ 10 ∷ rest))
+
+abbrev pub SymbolLine : ℕ → Symbol → List ℕ → List ℕ → Type 0
+SymbolLine n s ts rest = InRange n s.letter s.position × SymbolForm s ts rest
 
 abbrev pub SymbolLines : ℕ → List Symbol → List ℕ → List ℕ → Type 0
 SymbolLines n [] ts rest = ts ≡ rest

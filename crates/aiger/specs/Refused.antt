@@ -5,10 +5,9 @@
 --   up to inputs   line 1 is right, and so are the lines of the first k inputs; rest stands after them
 --   up to gates    the same up to the output, and the lines of these gates
 --   broken         a line of the form that is due breaks the rule; here is the text that begins with it
---   symbol form    a symbol line, whatever its position
 --   told           an answer tells a rule and a line exactly when the file breaks that rule on that line in this way. Of a
 --                  fault of the text it says only that no such file gets one
-use Rattle.std.specs.Prelude.{◌≡◌, ℕ, ◌+◌, ◌*◌, ◌<◌, ◌≤◌, List, [], ◌∷◌, ◌++◌, length, Err, Result}
+use Rattle.std.specs.Prelude.{◌≡◌, ℕ, ◌+◌, ◌*◌, ◌<◌, ◌≤◌, List, [], ◌∷◌, length, Err, Result}
 use Rattle.circuit.specs.Limits.{max_inputs, max_gates}
 use Rattle.circuit.specs.declared.reading.Reading.{Reading}
 use Rattle.faults.specs.Reports.{max_file_bytes, rule_number}
@@ -17,8 +16,7 @@ use Rattle.faults.specs.declared.circuit.Rule.TheVariants.{InputCount, LatchCoun
 use Rattle.faults.specs.declared.circuit.CircuitFault.{CircuitFault}
 use Rattle.faults.specs.declared.circuit.CircuitFault.TheVariants.{Broken}
 use Rattle.aiger.specs.Lines.{Within}
-use Rattle.aiger.specs.Symbols.{max_name}
-use Rattle.aiger.specs.Grammar.{Numeral, NumberLine, HeaderLine, InputLines, GateLines, Symbol, letter_byte, InRange, NameBytes, SymbolLines, OtherThan, Apart}
+use Rattle.aiger.specs.Grammar.{NumberLine, HeaderLine, InputLines, GateLines, Symbol, InRange, SymbolForm, SymbolLines, OtherThan, Apart}
 use Rattle.aiger.specs.declared.header.Header.{Header}
 
 -- a header's rules, with a gate table of so many words
@@ -112,14 +110,6 @@ pub record GateBroken (file : List ℕ) (words : ℕ) (rule : Rule) (line : ℕ)
   pub numbers : NumberLine (own ∷ g.0 ∷ g.1 ∷ []) here rest
   pub breaks : GateBreaks (2 * (h.inputs + 1 + length gs)) own g rule
   pub line_is : line ≡ h.inputs + 3 + length gs
-
-pub record SymbolForm (s : Symbol) (ts rest : List ℕ) : Type 0 where
-  pub ds : List ℕ
-  pub position : Numeral s.position ds
-  pub some : 1 ≤ length s.name
-  pub few : length s.name ≤ max_name
-  pub bytes : NameBytes s.name
-  pub text : ts ≡ letter_byte s.letter ∷ (ds ++ 32 ∷ (s.name ++ 10 ∷ rest))
 
 -- the position of a symbol is too large, or one of the symbols before has it
 pub record SymbolBroken (file : List ℕ) (words line : ℕ) : Type 0 where
