@@ -1,5 +1,5 @@
 -- A rule that is broken is told, on its line. Assumes nothing.
-use Rattle.std.proofs.Common.{◌≡◌, ℕ, zero, suc, ◌+◌, ◌*◌, ◌<◌, ◌≤◌, true, false, not, ◌||◌, eqb, ltb, leb, List, [], ◌∷◌, length, drop, replicate, Ok, Err, Result, sym, ap, ◌∙◌, subst, inr, arith}
+use Rattle.std.proofs.Common.{◌≡◌, ℕ, zero, suc, ◌+◌, ◌*◌, ◌<◌, ◌≤◌, true, false, not, ◌||◌, eqb, ltb, leb, List, [], ◌∷◌, length, drop, replicate, Ok, Err, Result, sym, ap, ◌∙◌, subst, inl, inr, arith}
 use Rattle.std.specs.Result.{result_map_both}
 use Rattle.std.proofs.lemmas.List.{length-replicate}
 use Rattle.std.proofs.lemmas.Bool.{cond-true, cond-false, eqb-true, ltb-false, le-ltb, false_from_ne_true, true_from_ne_false}
@@ -227,12 +227,12 @@ module _ (bs : List ℕ) (w : ℕ) where
         here = b.here;
         lines = b.lines;
         free = apart_free h.inputs b.symbols limits.inputs v b.apart;
-        last = inr (record { s = b.s; rest = b.rest; form = b.form; taken = (breaks_taken h.inputs b.s b.symbols limits.inputs v b.breaks, end) });
+        last = inr (inl (record { s = b.s; rest = b.rest; form = b.form; taken = (breaks_taken h.inputs b.s b.symbols limits.inputs v b.breaks, end) }));
       } in
       after_output h b.gs b.after_gates u _ (λ p e.
       let g = gates_read b.gs h.inputs 0 p bs table b.after_gates (subst (λ (l : List ℕ). GateLines h.inputs 0 b.gs l b.after_gates) (sym e) u.gates) in
       let gates : gates_at bs h.inputs 0 h.gates p table ≡ (filled table 0 b.gs, Ok g.0) = ap (λ (n : ℕ). gates_at bs h.inputs 0 n p table) (sym b.count) ∙ g.1 in
-      symbol_lost h u.output line q g.0 _ _ line_is gates (symbols_read bs (Refused q) g.0 h.inputs (subst (Lines bs (Refused q) h.inputs (replicate slots false)) (sym g.2) wrong)))
+      symbol_lost h u.output line q g.0 _ _ line_is gates (symbols_read bs (Refused q) (λ s ts a. a) g.0 h.inputs (subst (Lines bs (Refused q) h.inputs (replicate slots false)) (sym g.2) wrong)))
 
   told : (rule : Rule) (line : ℕ) → BrokenBy bs w rule line → (into_of bs table).1 ≡ Err (Broken rule line)
   told InputCount line b = header_told InputCount line b

@@ -25,7 +25,7 @@ header_read_lem bs h rest (mid, text, line) =
       a.2,
     )
 
-word_back : (bs : List ℕ) (p : ℕ) → word_at bs ≡ Ok p → bs ≡ 97 ∷ 97 ∷ 103 ∷ 32 ∷ drop p bs
+pub word_back : (bs : List ℕ) (p : ℕ) → word_at bs ≡ Ok p → bs ≡ 97 ∷ 97 ∷ 103 ∷ 32 ∷ drop p bs
 word_back bs p e =
     let w1 = next_ok (expect_at bs 0 97) _ p e in
     let w2 = next_ok (expect_at bs w1.0 97) _ p w1.2 in

@@ -1,8 +1,11 @@
 pub mod Carried
 pub mod NumberTexts
+pub mod Pieces
 pub mod HeaderTexts
+pub mod LineFaults
 pub mod LiteralTexts
 pub mod GateTexts
+pub mod SymbolForms
 pub mod SymbolSteps
 pub mod SymbolTexts
 pub mod SymbolsBack

@@ -39,7 +39,7 @@ digits_front [] = refl
 digits_front (b ∷ bs) =
     cond_both (is_digit b) (b ∷ digits bs) [] (λ (l : List ℕ). b ∷ bs ≡ l ++ drop (length l) (b ∷ bs)) (λ _. ap (λ (l : List ℕ). b ∷ l) (digits_front bs)) (λ _. refl)
 
-judge_back : (p : ℕ) (v : ℕ × ℕ) (ds : List ℕ) → AllDigits ds → judged p ds ≡ Ok v → Numeral v.0 ds × (v.1 ≡ p + length ds)
+pub judge_back : (p : ℕ) (v : ℕ × ℕ) (ds : List ℕ) → AllDigits ds → judged p ds ≡ Ok v → Numeral v.0 ds × (v.1 ≡ p + length ds)
 judge_back p v ds d e = (
   record { some = grind (arith, nat_tests); few = grind (arith, nat_tests); digit = d; plain = λ z. grind (arith, nat_tests); value = grind (arith, nat_tests) },
   grind (arith, nat_tests),
@@ -114,7 +114,7 @@ numbers_read (w ∷ vs) v bs p rest (ds, mid, num, e, more) =
       b.2,
     )
 
-before : (v : ℕ) (vs ds ts mid rest : List ℕ) → Numeral v ds → ts ≡ ds ++ 32 ∷ mid → NumberLine vs mid rest → NumberLine (v ∷ vs) ts rest
+pub before : (v : ℕ) (vs ds ts mid rest : List ℕ) → Numeral v ds → ts ≡ ds ++ 32 ∷ mid → NumberLine vs mid rest → NumberLine (v ∷ vs) ts rest
 before v [] ds ts mid rest num e more = absurd more
 before v (w ∷ vs) ds ts mid rest num e more = (ds, mid, num, e, more)
 

@@ -1,30 +1,37 @@
--- What may stand from a place on, by where the symbol machine stands there, that makes it accept the lines or refuse a position. Assumes nothing.
+-- What may stand from a place on, by where the symbol machine stands there, that makes it accept the lines, refuse a position or
+-- find a line malformed. Assumes nothing.
 use Rattle.std.proofs.Common.{◌≡◌, ℕ, ◌+◌, ◌-◌, ◌≤◌, Bool, true, false, List, [], ◌∷◌, ◌++◌, length, get_or, drop, set, Some, None, Ok, Err, Result, ltb, eqb, inl, inr, ◌⊎◌, ⊎_elim, refl, arith}
 use Rattle.std.proofs.lemmas.Bool.Decides.{nat_tests}
 use Rattle.std.proofs.lemmas.Bool.{cond-false, cases_Bool, eqb-true, ltb-true}
 use Rattle.circuit.specs.Limits.{max_inputs}
-use Rattle.aiger.specs.Symbols.{max_name, slot_of}
-use Rattle.aiger.specs.Grammar.{Numeral, Symbol, InRange, NameBytes, SymbolForm, SymbolLines, Ending}
+use Rattle.faults.specs.declared.text.TextFault.{TextFault}
+use Rattle.aiger.specs.Symbols.{slot_of}
+use Rattle.aiger.specs.Grammar.{Numeral, Symbol, InRange, SymbolForm, SymbolLines, Ending}
+use Rattle.aiger.specs.Malformed.{NameRest}
 use Rattle.aiger.specs.declared.states.Letter.{Letter}
 use Rattle.aiger.specs.declared.states.Letter.TheVariants.{Input, Output}
 use Rattle.aiger.specs.declared.states.State.{State}
 use Rattle.aiger.specs.declared.states.State.TheVariants.{Start, Position, Gap, Name, Comment, Done}
 use Rattle.aiger.specs.declared.states.SymbolFault.{SymbolFault}
-use Rattle.aiger.specs.declared.states.SymbolFault.TheVariants.{NoSlot}
+use Rattle.aiger.specs.declared.states.SymbolFault.TheVariants.{Text, NoSlot}
 use Rattle.aiger.specs.declared.symbols.SymbolMachine.{SymbolMachine}
+use Rattle.aiger.proofs.SymbolForms.{Lost}
 
--- the lines are accepted, or a position is refused whose line has its newline at a place
+-- the lines are accepted, a position is refused whose line has its newline at a place, or a line has this fault
 pub data Verdict : Type 0 where
   Accepted : Verdict
   Refused : ℕ → Verdict
+  Misread : TextFault → Verdict
 
 abbrev pub answer : Verdict → Result (Unit {0}) SymbolFault
 answer Accepted = Ok tt
 answer (Refused q) = Err (NoSlot q)
+answer (Misread e) = Err (Text e)
 
 abbrev pub Accepts : Verdict → Type 0
 Accepts Accepted = Unit {0}
 Accepts (Refused q) = ⊥
+Accepts (Misread e) = ⊥
 
 -- the slot of a position in range
 abbrev pub place : Letter → ℕ → ℕ
@@ -45,6 +52,13 @@ marks z (s ∷ ss) = marks (set z (place s.letter s.position) true) ss
 abbrev pub Taken : List ℕ → Verdict → ℕ → List Bool → Letter → ℕ → List ℕ → Type 0
 Taken bs Accepted n z l p rest = ⊥
 Taken bs (Refused q) n z l p rest = (InRange n l p → get_or z (place l p) false ≡ true) × (drop q bs ≡ 10 ∷ rest)
+Taken bs (Misread e) n z l p rest = ⊥
+
+-- a line that is malformed, from where the machine stands on
+abbrev pub Astray : List ℕ → Verdict → State → List ℕ → Type 0
+Astray bs Accepted s ts = ⊥
+Astray bs (Refused q) s ts = ⊥
+Astray bs (Misread e) s ts = Lost bs s ts e
 
 -- the line whose position is refused
 pub record Last (bs : List ℕ) (v : Verdict) (n : ℕ) (z : List Bool) (ts : List ℕ) : Type 0 where
@@ -53,13 +67,13 @@ pub record Last (bs : List ℕ) (v : Verdict) (n : ℕ) (z : List Bool) (ts : Li
   pub form : SymbolForm s ts rest
   pub taken : Taken bs v n z s.letter s.position rest
 
--- lines that are accepted, and then the end or the line that is refused
+-- lines that are accepted, and then the end or the line that is refused or malformed
 pub record Lines (bs : List ℕ) (v : Verdict) (n : ℕ) (z : List Bool) (ts : List ℕ) : Type 0 where
   pub symbols : List Symbol
   pub here : List ℕ
   pub lines : SymbolLines n symbols ts here
   pub free : Free z symbols
-  pub last : (Accepts v × Ending here) ⊎ Last bs v n (marks z symbols) here
+  pub last : (Accepts v × Ending here) ⊎ (Last bs v n (marks z symbols) here ⊎ Astray bs v Start here)
 
 -- after a name: its position is accepted, and more lines, or it is refused
 abbrev pub After : List ℕ → Verdict → ℕ → List Bool → Letter → ℕ → List ℕ → Type 0
@@ -67,20 +81,16 @@ After bs v n z l p rest = (InRange n l p × (get_or z (place l p) false ≡ fals
 
 -- the rest of a name, after k bytes of it
 pub record Named (bs : List ℕ) (v : Verdict) (n : ℕ) (z : List Bool) (l : Letter) (p k : ℕ) (ts : List ℕ) : Type 0 where
-  pub name : List ℕ
-  pub rest : List ℕ
-  pub text : ts ≡ name ++ 10 ∷ rest
-  pub some : 1 ≤ k + length name
-  pub few : length name ≤ max_name - k
-  pub bytes : NameBytes name
-  pub after : After bs v n z l p rest
+  pub text : NameRest k ts
+  pub after : After bs v n z l p text.rest
 
 abbrev pub Rest : List ℕ → Verdict → ℕ → List Bool → State → List ℕ → Type 0
 Rest bs v n z Start ts = Lines bs v n z ts
-Rest bs v n z (Position l) ts = (p : ℕ) × (ds : List ℕ) × (rest : List ℕ) × Numeral p ds × (ts ≡ ds ++ 32 ∷ rest) × Named bs v n z l p 0 rest
-Rest bs v n z (Gap l p) ts = (rest : List ℕ) × (ts ≡ 32 ∷ rest) × Named bs v n z l p 0 rest
-Rest bs v n z (Name l p k) ts = Named bs v n z l p k ts
-Rest bs v n z Comment ts = Accepts v × (rest : List ℕ) × (ts ≡ 10 ∷ rest)
+Rest bs v n z (Position l) ts =
+    ((p : ℕ) × (ds : List ℕ) × (rest : List ℕ) × Numeral p ds × (ts ≡ ds ++ 32 ∷ rest) × Named bs v n z l p 0 rest) ⊎ Astray bs v (Position l) ts
+Rest bs v n z (Gap l p) ts = ((rest : List ℕ) × (ts ≡ 32 ∷ rest) × Named bs v n z l p 0 rest) ⊎ Astray bs v (Gap l p) ts
+Rest bs v n z (Name l p k) ts = Named bs v n z l p k ts ⊎ Astray bs v (Name l p k) ts
+Rest bs v n z Comment ts = (Accepts v × (rest : List ℕ) × (ts ≡ 10 ∷ rest)) ⊎ Astray bs v Comment ts
 Rest bs v n z Done ts = Accepts v
 
 -- the machine after the newline of a line with the slot s
@@ -92,16 +102,21 @@ ended m s = record { state = Start; at = m.at + 1; inputs = m.inputs; seen = set
 pub accepted : (v : Verdict) → Accepts v → Ok tt ≡ answer v
 accepted Accepted h = refl
 accepted (Refused q) h = absurd h
+accepted (Misread e) h = absurd h
 
 pub accepts : (v : Verdict) (u : Unit {0}) → Ok u ≡ answer v → Accepts v
 accepts Accepted u e = tt
 accepts (Refused q) u e = cc
+accepts (Misread d) u e = cc
 
 pub ending_of : (bs : List ℕ) (n : ℕ) (z : List Bool) (ts : List ℕ) (r : Lines bs Accepted n z ts) → Ending r.here
-ending_of bs n z ts r = ⊎_elim (λ a. a.1) (λ a. absurd a.taken) r.last
+ending_of bs n z ts r = ⊎_elim (λ a. a.1) (λ a. ⊎_elim (λ a. absurd a.taken) (λ a. absurd a) a) r.last
 
 pub last_of : (bs : List ℕ) (q n : ℕ) (z : List Bool) (ts : List ℕ) (r : Lines bs (Refused q) n z ts) → Last bs (Refused q) n (marks z r.symbols) r.here
-last_of bs q n z ts r = ⊎_elim (λ a. absurd a.0) (λ a. a) r.last
+last_of bs q n z ts r = ⊎_elim (λ a. absurd a.0) (λ a. ⊎_elim (λ a. a) (λ a. absurd a) a) r.last
+
+pub lost_of : (bs : List ℕ) (e : TextFault) (n : ℕ) (z : List Bool) (ts : List ℕ) (r : Lines bs (Misread e) n z ts) → Lost bs Start r.here e
+lost_of bs e n z ts r = ⊎_elim (λ a. absurd a.0) (λ a. ⊎_elim (λ a. absurd a.taken) (λ a. a) a) r.last
 
 -- slots
 

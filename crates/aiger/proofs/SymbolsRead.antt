@@ -20,8 +20,8 @@ use Rattle.aiger.specs.declared.states.SymbolFault.TheVariants.{NoSlot}
 use Rattle.aiger.specs.declared.symbols.SymbolMachine.{SymbolMachine}
 use Rattle.aiger.proofs.NumberTexts.{number_read, first_of, one_on}
 use Rattle.text.proofs.Runs.{past_end}
-use Rattle.aiger.proofs.SymbolSteps.{Step, going, ran, forward}
-use Rattle.aiger.proofs.SymbolTexts.{Verdict, Accepted, Refused, answer, Accepts, place, Free, marks, Taken, Last, Lines, After, Rest, ended, accepted, slot_within, slot_cases}
+use Rattle.aiger.proofs.SymbolSteps.{Step, going, ran, onward}
+use Rattle.aiger.proofs.SymbolTexts.{Verdict, Accepted, Refused, Misread, answer, Accepts, place, Free, marks, Taken, Last, Astray, Lines, After, Rest, ended, accepted, slot_within, slot_cases}
 
 abbrev mk : State → ℕ → ℕ → List Bool → SymbolMachine
 mk s p n z = record { state = s; at = p; inputs = n; seen = z }
@@ -38,7 +38,7 @@ step_lost f bs m e go h = cond-true (going bs m) _ _ go ∙ ap (λ (s : Step). n
 
 -- the steps left after a step
 less : (f : ℕ) (bs : List ℕ) (m t : SymbolMachine) → length bs - m.at ≤ suc f → m.at < length bs → step_of bs m ≡ Ok t → length bs - t.at ≤ f
-less f bs m t h i e = let o = forward bs m t e in omega arith
+less f bs m t h i e = let o = onward bs m t e in omega (arith, o.0)
 
 inside_of : (bs : List ℕ) (p x : ℕ) (rest : List ℕ) → drop p bs ≡ x ∷ rest → ltb p (length bs) ≡ true
 inside_of bs p x rest e = lt-ltb _ _ (first_of bs p x rest e).0
@@ -87,7 +87,8 @@ numeral_first v (d ∷ ds) rest n =
 
 -- whole lines
 
-module _ (bs : List ℕ) (v : Verdict) where
+-- a verdict that no line is malformed
+module _ (bs : List ℕ) (v : Verdict) (formed : (s : State) (ts : List ℕ) → Astray bs v s ts → ⊥) where
   abbrev Fore : ℕ → Type 0
   Fore f = (s : State) (p n : ℕ) (z : List Bool) → length bs - p ≤ f → Rest bs v n z s (drop p bs) → ran f bs (mk s p n z) ≡ answer v
 
@@ -107,14 +108,14 @@ module _ (bs : List ℕ) (v : Verdict) where
         → ran (suc f) bs (mk Start p n z) ≡ answer v
     fore_line p n z s rest h form after =
         let ts = form.ds ++ 32 ∷ (s.name ++ 10 ∷ rest) in
-        letter s.letter ts form.text (
+        letter s.letter ts form.text (inl (
           s.position,
           form.ds,
           s.name ++ 10 ∷ rest,
           form.position,
           refl,
-          record { name = s.name; rest = rest; text = refl; some = omega (arith, form.some); few = omega (arith, form.few); bytes = form.bytes; after = after },
-        )
+          record { text = record { name = s.name; rest = rest; some = omega (arith, form.some); few = omega (arith, form.few); bytes = form.bytes; text = refl }; after = after },
+        ))
       where
         letter : (l : Letter) (ts : List ℕ) → drop p bs ≡ letter_byte l ∷ ts → Rest bs v n z (Position l) ts → ran (suc f) bs (mk Start p n z) ≡ answer v
         letter Input ts e r = move Start (Position Input) p n z 105 ts h e refl refl r
@@ -125,13 +126,14 @@ module _ (bs : List ℕ) (v : Verdict) where
     fore_ending p n z h good (inl end) =
         let long : length bs - p ≡ 0 = sym (length-drop p bs) ∙ ap length end in
         cond-false (going bs (mk Start p n z)) _ _ (past_end is_over (λ m. m.at) bs (mk Start p n z) (omega arith)) ∙ accepted v good
-    fore_ending p n z h good (inr (more, end)) = move Start Comment p n z 99 (10 ∷ more) h end refl refl (good, more, refl)
+    fore_ending p n z h good (inr (more, end)) = move Start Comment p n z 99 (10 ∷ more) h end refl refl (inl (good, more, refl))
 
     -- from the start of a line on
     fore_start : (p n : ℕ) (z : List Bool) (ss : List Symbol) (here : List ℕ) → length bs - p ≤ suc f → SymbolLines n ss (drop p bs) here → Free z ss
-        → (Accepts v × Ending here) ⊎ Last bs v n (marks z ss) here → ran (suc f) bs (mk Start p n z) ≡ answer v
+        → (Accepts v × Ending here) ⊎ (Last bs v n (marks z ss) here ⊎ Astray bs v Start here) → ran (suc f) bs (mk Start p n z) ≡ answer v
     fore_start p n z [] here h e unmarked (inl (good, end)) = fore_ending p n z h good (subst Ending (sym e) end)
-    fore_start p n z [] here h e unmarked (inr last) = fore_line p n z last.s last.rest h (subst (λ (ts : List ℕ). SymbolForm last.s ts last.rest) (sym e) last.form) (inr last.taken)
+    fore_start p n z [] here h e unmarked (inr (inr a)) = absurd (formed Start here a)
+    fore_start p n z [] here h e unmarked (inr (inl last)) = fore_line p n z last.s last.rest h (subst (λ (ts : List ℕ). SymbolForm last.s ts last.rest) (sym e) last.form) (inr last.taken)
     fore_start p n z (s ∷ ss) here h (mid, line, lines) (new, others) last =
         fore_line p n z s mid h line.1
         (inl (line.0, new, record { symbols = ss; here = here; lines = lines; free = others; last = last }))
@@ -149,42 +151,53 @@ module _ (bs : List ℕ) (v : Verdict) where
       where
         taken_here : (v : Verdict) → Taken bs v n z l o rest → (InRange n l o → get_or z (place l o) false ≡ true) × (◌≡◌ {A = Result (Unit {0}) SymbolFault} (Err (NoSlot p)) (answer v))
         taken_here Accepted t = absurd t
+        taken_here (Misread d) t = absurd t
         taken_here (Refused q) (t, end) = (t, (λ i. Err (NoSlot (one_place bs p q 10 rest e end i))))
 
-    fore_name : (l : Letter) (o k p n : ℕ) (z : List Bool) (name rest : List ℕ) → length bs - p ≤ suc f → drop p bs ≡ name ++ 10 ∷ rest → 1 ≤ k + length name → length name ≤ max_name - k → NameBytes name
+    fore_name : (l : Letter) (o k p n : ℕ) (z : List Bool) (name rest : List ℕ) → length bs - p ≤ suc f → drop p bs ≡ name ++ 10 ∷ rest → 1 ≤ k + length name → k + length name ≤ max_name → NameBytes name
         → After bs v n z l o rest → ran (suc f) bs (mk (Name l o k) p n z) ≡ answer v
     fore_name l o k p n z [] rest h e some few bytes after = fore_end l o k p n z rest h e (omega arith) after
     fore_name l o k p n z (b ∷ name) rest h e some few (nb, bytes) after =
         move (Name l o k) (Name l o (k + 1)) p n z b (name ++ 10 ∷ rest) h e refl (named_step bs (mk (Name l o k) p n z) l o k b nb (omega arith))
-        (record { name = name; rest = rest; text = refl; some = omega arith; few = omega arith; bytes = bytes; after = after })
+        (inl (record { text = record { name = name; rest = rest; some = omega arith; few = omega arith; bytes = bytes; text = refl }; after = after }))
 
     fore_position : (l : Letter) (p n : ℕ) (z : List Bool) → length bs - p ≤ suc f → Rest bs v n z (Position l) (drop p bs) → ran (suc f) bs (mk (Position l) p n z) ≡ answer v
-    fore_position l p n z h (o, ds, rest, num, e, named) =
+    fore_position l p n z h (inr a) = absurd (formed (Position l) (drop p bs) a)
+    fore_position l p n z h (inl (o, ds, rest, num, e, nm)) =
         let m = mk (Position l) p n z in
         let d = numeral_first o ds (32 ∷ rest) num in
         let a = number_read bs p o 32 ds rest num refl e in
         let s : step_of bs m ≡ Ok (mk (Gap l o) a.0 n z) = at_byte bs m d.0 d.1 (e ∙ d.2) ∙ cond-true _ _ _ d.3 ∙ place_step bs m l o a.0 a.1 in
         step_read f bs m _ (answer v) (inside_of bs p d.0 d.1 (e ∙ d.2)) s
-        (ih (Gap l o) a.0 n z (less f bs m _ h (first_of bs p d.0 d.1 (e ∙ d.2)).0 s) (rest, a.2, named))
+        (ih (Gap l o) a.0 n z (less f bs m _ h (first_of bs p d.0 d.1 (e ∙ d.2)).0 s) (inl (rest, a.2, nm)))
 
   -- no line stands past the end
-  fore_past : (p n : ℕ) (z : List Bool) → length bs - p ≤ 0 → (ss : List Symbol) (here : List ℕ) → SymbolLines n ss (drop p bs) here → (Accepts v × Ending here) ⊎ Last bs v n (marks z ss) here → Ok tt ≡ answer v
+  fore_past : (p n : ℕ) (z : List Bool) → length bs - p ≤ 0 → (ss : List Symbol) (here : List ℕ) → SymbolLines n ss (drop p bs) here
+      → (Accepts v × Ending here) ⊎ (Last bs v n (marks z ss) here ⊎ Astray bs v Start here) → Ok tt ≡ answer v
   fore_past p n z h [] here e (inl (good, end)) = accepted v good
-  fore_past p n z h [] here e (inr last) = absurd (not_nil bs [] _ p _ h (e ∙ last.form.text))
+  fore_past p n z h [] here e (inr (inr a)) = absurd (formed Start here a)
+  fore_past p n z h [] here e (inr (inl last)) = absurd (not_nil bs [] _ p _ h (e ∙ last.form.text))
   fore_past p n z h (s ∷ ss) here (mid, line, lines) last = absurd (not_nil bs [] _ p _ h line.1.text)
 
   fore : (f : ℕ) → Fore f
   fore zero Start p n z h r = fore_past p n z h r.symbols r.here r.lines r.last
-  fore zero (Position l) p n z h (o, ds, rest, num, e, named) = absurd (not_nil bs ds rest p 32 h e)
-  fore zero (Gap l o) p n z h (rest, e, named) = absurd (not_nil bs [] rest p 32 h e)
-  fore zero (Name l o k) p n z h r = absurd (not_nil bs r.name r.rest p 10 h r.text)
-  fore zero Comment p n z h (good, rest, e) = absurd (not_nil bs [] rest p 10 h e)
+  fore zero (Position l) p n z h (inr a) = absurd (formed (Position l) (drop p bs) a)
+  fore zero (Position l) p n z h (inl (o, ds, rest, num, e, nm)) = absurd (not_nil bs ds rest p 32 h e)
+  fore zero (Gap l o) p n z h (inr a) = absurd (formed (Gap l o) (drop p bs) a)
+  fore zero (Gap l o) p n z h (inl (rest, e, nm)) = absurd (not_nil bs [] rest p 32 h e)
+  fore zero (Name l o k) p n z h (inr a) = absurd (formed (Name l o k) (drop p bs) a)
+  fore zero (Name l o k) p n z h (inl r) = absurd (not_nil bs r.text.name r.text.rest p 10 h r.text.text)
+  fore zero Comment p n z h (inr a) = absurd (formed Comment (drop p bs) a)
+  fore zero Comment p n z h (inl (good, rest, e)) = absurd (not_nil bs [] rest p 10 h e)
   fore zero Done p n z h r = accepted v r
   fore (suc f) Start p n z h r = fore_start f (fore f) p n z r.symbols r.here h r.lines r.free r.last
   fore (suc f) (Position l) p n z h r = fore_position f (fore f) l p n z h r
-  fore (suc f) (Gap l o) p n z h (rest, e, named) = move f (fore f) (Gap l o) (Name l o 0) p n z 32 rest h e refl refl named
-  fore (suc f) (Name l o k) p n z h r = fore_name f (fore f) l o k p n z r.name r.rest h r.text r.some r.few r.bytes r.after
-  fore (suc f) Comment p n z h (good, rest, e) = move f (fore f) Comment Done p n z 10 rest h e refl refl good
+  fore (suc f) (Gap l o) p n z h (inr a) = absurd (formed (Gap l o) (drop p bs) a)
+  fore (suc f) (Gap l o) p n z h (inl (rest, e, nm)) = move f (fore f) (Gap l o) (Name l o 0) p n z 32 rest h e refl refl (inl nm)
+  fore (suc f) (Name l o k) p n z h (inr a) = absurd (formed (Name l o k) (drop p bs) a)
+  fore (suc f) (Name l o k) p n z h (inl r) = let t = r.text in fore_name f (fore f) l o k p n z t.name t.rest h t.text t.some t.few t.bytes r.after
+  fore (suc f) Comment p n z h (inr a) = absurd (formed Comment (drop p bs) a)
+  fore (suc f) Comment p n z h (inl (good, rest, e)) = move f (fore f) Comment Done p n z 10 rest h e refl refl good
   fore (suc f) Done p n z h r = accepted v r
 
   pub symbols_read : (p n : ℕ) → Lines bs v n (replicate slots false) (drop p bs) → ran (length bs) bs (first p n) ≡ answer v

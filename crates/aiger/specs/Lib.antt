@@ -4,3 +4,4 @@ pub mod Symbols
 pub mod Reads
 pub mod Grammar
 pub mod Refused
+pub mod Malformed
