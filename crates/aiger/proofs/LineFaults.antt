@@ -1,19 +1,23 @@
 -- Lines of numbers: where one is refused it is malformed. Assumes nothing.
-use Rattle.std.proofs.Common.{◌≡◌, ℕ, zero, suc, ◌+◌, ◌-◌, ◌<◌, ◌≤◌, false, ◌&&◌, eqb, ltb, List, [], ◌∷◌, ◌++◌, length, get_or, drop, codes, Some, Ok, Err, Result, slice_get, sym, refl, ap, ◌∙◌, subst, inl, inr, ◌⊎◌, ⊎_elim, arith}
-use Rattle.std.proofs.lemmas.List.{length-append, length-drop}
+use Rattle.std.proofs.Common.{◌≡◌, ℕ, zero, suc, ◌+◌, ◌*◌, ◌≤◌, false, ◌&&◌, eqb, ltb, List, [], ◌∷◌, ◌++◌, length, get_or, drop, Some, Ok, Err, Result, slice_get, sym, refl, ap, ◌∙◌, subst, inl, inr, ◌⊎◌, ⊎_elim, arith}
+use Rattle.std.proofs.lemmas.List.{length-drop}
 use Rattle.std.proofs.lemmas.Bool.{ltb-true, and_parts, cond_both}
 use Rattle.faults.specs.declared.text.TextFault.{TextFault}
 use Rattle.faults.specs.declared.text.TextFault.TheVariants.{Misfit}
 use Rattle.text.specs.Numbers.{is_digit, digits, number_at}
 use Rattle.text.specs.Lines.{expect_at, item_at, numbers_at, word_at, header_at}
 use Rattle.text.specs.Runs.{next}
-use Rattle.text.proofs.Answers.{ok_same, in_test, next_ok, of_five}
+use Rattle.text.proofs.Answers.{ok_same, after_test, in_test, next_ok, of_five}
 use Rattle.text.proofs.Digits.{all_digits}
-use Rattle.aiger.specs.Lines.{header_read, gate_at}
-use Rattle.aiger.specs.Grammar.{NumberLine, HeaderLine}
-use Rattle.aiger.specs.Malformed.{Kind, header, numbers, Begins, Anything, Byte, Digits, DigitLine, Loose}
+use Rattle.faults.specs.declared.circuit.CircuitFault.TheVariants.{Text}
+use Rattle.aiger.specs.FaultLines.{located_at, located_in}
+use Rattle.aiger.specs.Lines.{header_in, header_read, inputs_at, output_at, gate_in, gate_at}
+use Rattle.aiger.specs.Grammar.{NumberLine}
+use Rattle.aiger.specs.Malformed.{header, numbers, Begins, Anything, Byte, Digits, DigitLine, Loose}
 use Rattle.aiger.specs.declared.header.Header.{Header}
-use Rattle.aiger.proofs.NumberTexts.{before, judge_back, number_back, expect_read, expect_back}
+use Rattle.aiger.specs.declared.gates.Gate.{Gate}
+use Rattle.aiger.proofs.Carried.{up_ok, told_ok}
+use Rattle.aiger.proofs.NumberTexts.{before, judge_back, expect_read, expect_back}
 use Rattle.aiger.proofs.HeaderTexts.{word_back}
 use Rattle.aiger.proofs.Pieces.{Faulty, shift, byte_stuck, byte_on, Number, nought, number_stuck, number_on}
 
@@ -52,6 +56,30 @@ digits_few : (ts : List ℕ) → length (digits ts) ≤ length ts
 digits_few [] = omega arith
 digits_few (b ∷ ts) = cond_both (is_digit b) (b ∷ digits ts) [] (λ (l : List ℕ). length l ≤ suc (length ts)) (λ _. let few = digits_few ts in omega arith) (λ _. omega arith)
 
+pub gate_within : (bs : List ℕ) (p : ℕ) (g : Gate × ℕ) → gate_at bs p ≡ Ok g → g.1 ≤ length bs
+gate_within bs p g e =
+    let v = next_ok (numbers_at bs p 2) _ g e in
+    subst (λ (g : Gate × ℕ). g.1 ≤ length bs) (ok_same (gate_in v.0.0, v.0.1) g v.2) (numbers_within 2 bs p v.0 v.1)
+
+pub header_within : (bs : List ℕ) (h : Header × ℕ) → header_read bs ≡ Ok h → h.1 ≤ length bs
+header_within bs h e =
+    let v = next_ok (header_at bs) _ h e in
+    let p = next_ok (word_at bs) _ v.0 v.1 in
+    subst (λ (h : Header × ℕ). h.1 ≤ length bs) (ok_same (header_in v.0.0, v.0.1) h v.2) (numbers_within 4 bs p.0 v.0 p.2)
+
+pub inputs_within : (n k p q : ℕ) (bs : List ℕ) → p ≤ length bs → inputs_at bs p k n ≡ Ok q → q ≤ length bs
+inputs_within zero k p q bs low e = subst (λ (q : ℕ). q ≤ length bs) (ok_same p q e) low
+inputs_within (suc n) k p q bs low e =
+    let l = up_ok Text (located_in bs (item_at bs p 10)) _ q e in
+    let t = in_test (eqb l.0.0 (2 * k)) _ _ _ l.2 in
+    inputs_within n (k + 1) l.0.1 q bs (item_within bs p 10 l.0 (told_ok (located_at bs) _ _ l.1)) t.1
+
+pub output_within : (bs : List ℕ) (p hi i : ℕ) (v : ℕ × ℕ) → output_at bs p hi i ≡ Ok v → v.1 ≤ length bs
+output_within bs p hi i v e =
+    let l = up_ok Text (located_in bs (item_at bs p 10)) _ v e in
+    let t = after_test (ltb (2 * hi + 1) l.0.0) _ _ _ l.2 in
+    subst (λ (v : ℕ × ℕ). v.1 ≤ length bs) (ok_same l.0 v t.1) (item_within bs p 10 l.0 (told_ok (located_at bs) _ _ l.1))
+
 pub number_within : (bs : List ℕ) (p : ℕ) (v : ℕ × ℕ) → p ≤ length bs → number_at bs p ≡ Ok v → v.1 ≤ length bs
 number_within bs p v h e =
     let ds = digits (drop p bs) in
@@ -70,8 +98,10 @@ module _ (b : ℕ) (B L : List ℕ → Type 0) where
     where
       differs : (x : ℕ) (e : TextFault) → ◌≡◌ {A = Result ℕ TextFault} (Ok x) (Err e) → ⊥
       differs x e h = cc
+
       same : (d e : TextFault) → ◌≡◌ {A = Result ℕ TextFault} (Err d) (Err e) → d ≡ e
       same d e h = cc
+
       first_split : (ts : List ℕ) → slice_get ts 0 ≡ Some b → (rest : List ℕ) × (ts ≡ b ∷ rest)
       first_split [] s = cc
       first_split (x ∷ ts) s = (ts, cc)

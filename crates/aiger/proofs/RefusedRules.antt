@@ -7,7 +7,6 @@ use Rattle.std.proofs.lemmas.Bool.Decides.{nat_tests}
 use Rattle.circuit.specs.declared.reading.Reading.{Reading}
 use Rattle.circuit.specs.Limits.{max_inputs, max_gates}
 use Rattle.faults.specs.Reports.{max_file_bytes, rule_number}
-use Rattle.faults.specs.declared.circuit.Located.{Located}
 use Rattle.faults.specs.declared.circuit.Rule.{Rule}
 use Rattle.faults.specs.declared.circuit.Rule.TheVariants.{InputCount, LatchCount, OutputCount, GateCount, HighestVariable, GateTable, InputLine, OutputLiteral, GateLiteral, Operand, SymbolPosition}
 use Rattle.faults.specs.declared.circuit.CircuitFault.{CircuitFault}
@@ -15,11 +14,14 @@ use Rattle.faults.specs.declared.circuit.CircuitFault.TheVariants.{Text, Broken}
 use Rattle.text.specs.Lines.{item_at}
 use Rattle.text.specs.Runs.{next}
 use Rattle.text.specs.Places.{line_of}
-use Rattle.aiger.specs.FaultLines.{located_at, located_in}
+use Rattle.faults.specs.declared.text.TextFault.{TextFault}
+use Rattle.faults.specs.declared.text.TextFault.TheVariants.{TooLong, Misfit, BadNumber}
+use Rattle.aiger.specs.FaultLines.{fault_line, located_at, located_in}
 use Rattle.aiger.specs.Lines.{up, keep, Within, header_read, header_fits, inputs_at, output_at, gate_at, gate_fits, gates_at}
 use Rattle.aiger.specs.Symbols.{slots, first, refused_at}
 use Rattle.aiger.specs.Reads.{Answer, lines_of, into_of, settled, read_of}
 use Rattle.aiger.specs.Grammar.{NumberLine, HeaderLine, InputLines, GateLines, Symbol, SymbolForm, SymbolLines}
+use Rattle.aiger.specs.Malformed.{Kind, header, numbers, closing, Begins, Loose, Due, at_header, at_input, at_output, at_gate, at_closing, Malformed, Misread}
 use Rattle.aiger.specs.Refused.{Keeps, HeaderBroken, UpToInputs, UpToGates, GateBreaks, GateBroken, SymbolBroken, BrokenBy}
 use Rattle.aiger.specs.declared.gates.Gate.{Gate}
 use Rattle.aiger.specs.declared.header.Header.{Header}
@@ -31,15 +33,25 @@ use Rattle.aiger.proofs.NumberTexts.{number_line_back}
 use Rattle.aiger.proofs.LiteralTexts.{inputs_back, output_back}
 use Rattle.aiger.proofs.SymbolSteps.{ran}
 use Rattle.aiger.proofs.Apart.{all_in, free_apart, taken_breaks}
-use Rattle.aiger.proofs.SymbolTexts.{Refused, Lines, last_of}
+use Rattle.aiger.proofs.Pieces.{Faulty}
+use Rattle.aiger.proofs.LineFaults.{literal_err, gate_err, header_err, item_within, gate_within, header_within, inputs_within, output_within}
+use Rattle.aiger.proofs.SymbolTexts.{Refused, Misread as MisreadBy, Lines, last_of, lost_of}
 use Rattle.aiger.proofs.SymbolsBack.{symbols_back}
 use Rattle.aiger.proofs.LineCounts.{Cut, join, line_cut, header_cut, inputs_cut, gates_cut, form_cut, symbols_cut, at_place}
 use Rattle.aiger.proofs.GateTexts.{gate_back, fits_back, gates_back}
 
--- a fault is a rule that the file breaks, or one of the text
-abbrev RuleBroken : List ℕ → ℕ → CircuitFault → Type 0
-RuleBroken file words (Text located) = Unit {0}
-RuleBroken file words (Broken rule line) = BrokenBy file words rule line
+-- what a fault says of the file
+abbrev Says : List ℕ → ℕ → CircuitFault → Type 0
+Says file words (Text located) = Malformed file words located.fault × (located.line ≡ fault_line file located.fault)
+Says file words (Broken rule line) = BrokenBy file words rule line
+
+-- of a line that is due
+malformed : (file : List ℕ) (words : ℕ) (kind : Kind) (here : List ℕ) (e : TextFault) → Due file words kind here → Faulty (Begins kind) (Loose kind) file here e → Malformed file words e
+malformed file words kind here TooLong due f = absurd f
+malformed file words kind here (Misfit q) due f =
+    record { kind = kind; front = f.front; here = f.here; due = subst (Due file words kind) f.split due; at = f.at; begins = f.begins; stuck = f.stuck }
+malformed file words kind here (BadNumber q) due f =
+    record { kind = kind; front = f.front; here = f.here; due = subst (Due file words kind) f.split due; at = f.at; begins = f.begins; only = f.only; some = f.some; none = f.none }
 
 -- faults that are carried up
 
@@ -53,10 +65,10 @@ if_up : {X Y E F : Type 0} (f : E → F) (r : Result X E) (k : X → Result Y F)
 if_up f (Ok x) k P h g = g x refl
 if_up f (Err e) k P h g = h
 
--- what holds of each fault
-of_each : {X E : Type 0} (r : Result X E) (P : E → Type 0) → ((e : E) → P e) → IfErr r P
-of_each (Ok x) P f = tt
-of_each (Err e) P f = f e
+-- what holds of a fault of the text
+if_located : {X : Type 0} (bs : List ℕ) (r : Result X TextFault) (P : CircuitFault → Type 0) → ((e : TextFault) → r ≡ Err e → P (Text (located_at bs e))) → IfErr (located_in bs r) (λ l. P (Text l))
+if_located bs (Ok x) P f = tt
+if_located bs (Err e) P f = f e refl
 
 -- the rules of line 1
 
@@ -103,9 +115,9 @@ module _ (bs : List ℕ) (w : ℕ) (few : length bs ≤ max_file_bytes) where
   broken h rest line rule wrong below = record { few = few; h = h; rest = rest; header = line; breaks = wrong; others = each h w (rule_number rule) below; line_is = refl }
 
   -- the rules before the one that is broken, in their order
-  header_told : (h : Header) (rest : List ℕ) → HeaderLine h bs rest → IfErr (header_fits h w) (RuleBroken bs w)
+  header_told : (h : Header) (rest : List ℕ) → HeaderLine h bs rest → IfErr (header_fits h w) (Says bs w)
   header_told h rest line =
-      let P : Result (Unit {0}) CircuitFault → Type 0 = λ r. IfErr r (RuleBroken bs w) in
+      let P : Result (Unit {0}) CircuitFault → Type 0 = λ r. IfErr r (Says bs w) in
       cond_both (ltb h.inputs 1 || ltb max_inputs h.inputs) _ _ P
       (λ i. broken h rest line InputCount (range_true h.inputs i) (later 4 4 (omega arith), later 5 4 (omega arith), later 6 4 (omega arith), later 7 4 (omega arith), later 8 4 (omega arith), later 9 4 (omega arith)))
       (λ i. cond_both (not (eqb h.latches 0)) _ _ P
@@ -126,29 +138,33 @@ module _ (bs : List ℕ) (w : ℕ) (few : length bs ≤ max_file_bytes) where
 
 -- the lines of the inputs and of the output
 
-pub inputs_told : (P : CircuitFault → Type 0) (n k p : ℕ) (bs : List ℕ) → ((l : Located) → P (Text l))
+inputs_told : (P : CircuitFault → Type 0) (n k p : ℕ) (bs : List ℕ) → p ≤ length bs
+    → ((j : ℕ) (here : List ℕ) (e : TextFault) → j < n → InputLines k j (drop p bs) here → Faulty (Begins (numbers 0)) (Loose (numbers 0)) bs here e → P (Text (located_at bs e)))
     → ((j v : ℕ) (here rest : List ℕ) → j < n → InputLines k j (drop p bs) here → NumberLine (v ∷ []) here rest → (v ≡ 2 * (k + j) → ⊥) → P (Broken InputLine (k + j + 1)))
     → IfErr (inputs_at bs p k n) P
-inputs_told P zero k p bs text f = tt
-inputs_told P (suc n) k p bs text f =
-    let r = located_in bs (item_at bs p 10) in
-    if_up Text r _ P (of_each r _ text) (λ v e.
-    let line = number_line_back bs p v (told_ok (located_at bs) _ _ e) in
+inputs_told P zero k p bs low text f = tt
+inputs_told P (suc n) k p bs low text f =
+    if_up Text (located_in bs (item_at bs p 10)) _ P (if_located bs (item_at bs p 10) P (λ e r. text 0 (drop p bs) e (omega arith) refl (literal_err bs p e low r))) (λ v e.
+    let item = told_ok (located_at bs) _ _ e in
+    let line = number_line_back bs p v item in
     cond_both (eqb v.0 (2 * k)) _ _ (λ a. IfErr a P)
-    (λ t. inputs_told P n (k + 1) v.1 bs text (λ j x here rest among lines number wrong.
-    let more : InputLines k (suc j) (drop p bs) here = (drop v.1 bs, subst (λ (x : ℕ). NumberLine (x ∷ []) (drop p bs) (drop v.1 bs)) (eqb-true _ _ t) line, lines) in
+    (λ t.
+    let more : (j : ℕ) (here : List ℕ) → InputLines (k + 1) j (drop v.1 bs) here → InputLines k (suc j) (drop p bs) here =
+    λ j here lines. (drop v.1 bs, subst (λ (x : ℕ). NumberLine (x ∷ []) (drop p bs) (drop v.1 bs)) (eqb-true _ _ t) line, lines) in
+    inputs_told P n (k + 1) v.1 bs (item_within bs p 10 v item) (λ j here e among lines wrong. text (suc j) here e (omega arith) (more j here lines) wrong)
+    (λ j x here rest among lines number wrong.
     let line_is : k + suc j + 1 ≡ k + 1 + j + 1 = omega arith in
-    subst (λ (l : ℕ). P (Broken InputLine l)) line_is (f (suc j) x here rest (omega arith) more number (λ s. wrong (omega (arith, s))))))
+    subst (λ (l : ℕ). P (Broken InputLine l)) line_is (f (suc j) x here rest (omega arith) (more j here lines) number (λ s. wrong (omega (arith, s))))))
     (λ t.
     let line_is : k + 0 + 1 ≡ k + 1 = omega arith in
     subst (λ (l : ℕ). P (Broken InputLine l)) line_is (f 0 v.0 (drop p bs) (drop v.1 bs) (omega arith) refl line (λ s. eqb-false _ _ t (omega (arith, s))))))
 
-pub output_told : (P : CircuitFault → Type 0) (hi i p : ℕ) (bs : List ℕ) → ((l : Located) → P (Text l))
+output_told : (P : CircuitFault → Type 0) (hi i p : ℕ) (bs : List ℕ) → p ≤ length bs
+    → ((e : TextFault) → Faulty (Begins (numbers 0)) (Loose (numbers 0)) bs (drop p bs) e → P (Text (located_at bs e)))
     → ((v : ℕ) (rest : List ℕ) → NumberLine (v ∷ []) (drop p bs) rest → 2 * hi + 1 < v → P (Broken OutputLiteral (i + 2)))
     → IfErr (output_at bs p hi i) P
-output_told P hi i p bs text f =
-    let r = located_in bs (item_at bs p 10) in
-    if_up Text r _ P (of_each r _ text) (λ v e.
+output_told P hi i p bs low text f =
+    if_up Text (located_in bs (item_at bs p 10)) _ P (if_located bs (item_at bs p 10) P (λ e r. text e (literal_err bs p e low r))) (λ v e.
     cond_both (ltb (2 * hi + 1) v.0) _ _ (λ a. IfErr a P) (λ t. f v.0 (drop v.1 bs) (number_line_back bs p v (told_ok (located_at bs) _ _ e)) (ltb-true _ _ t)) (λ _. tt))
 
 -- the lines of the gates
@@ -161,17 +177,18 @@ gate_told P g i k f =
     cond_both (not (eqb g.own (2 * (i + 1 + k)))) _ _ (λ r. IfErr r P) (λ t. f GateLiteral (equal_true _ _ t))
     (λ t. cond_both (leb g.own g.left || leb g.own g.right) _ _ (λ r. IfErr r P) (λ o. f Operand (equal_false _ _ t, operands_true g.own g.left g.right o)) (λ _. tt))
 
-pub gates_told : (P : CircuitFault → Type 0) (n i k p : ℕ) (bs t : List ℕ) → ((l : Located) → P (Text l))
+gates_told : (P : CircuitFault → Type 0) (n i k p : ℕ) (bs t : List ℕ) → p ≤ length bs
+    → ((gs : List (ℕ × ℕ)) (here : List ℕ) (e : TextFault) → length gs < n → GateLines i k gs (drop p bs) here → Faulty (Begins (numbers 2)) (Loose (numbers 2)) bs here e → P (Text (located_at bs e)))
     → ((gs : List (ℕ × ℕ)) (own : ℕ) (g : ℕ × ℕ) (here rest : List ℕ) (rule : Rule) → length gs < n → GateLines i k gs (drop p bs) here → NumberLine (own ∷ g.0 ∷ g.1 ∷ []) here rest
     → GateBreaks (2 * (i + 1 + k + length gs)) own g rule → P (Broken rule (i + 3 + k + length gs)))
     → IfErr (gates_at bs i k n p t).1 P
-gates_told P zero i k p bs t text f = tt
-gates_told P (suc n) i k p bs t text f =
-    let r = located_in bs (gate_at bs p) in
-    if_keep Text t r _ P (of_each r _ text) (λ g e.
+gates_told P zero i k p bs t low text f = tt
+gates_told P (suc n) i k p bs t low text f =
+    if_keep Text t (located_in bs (gate_at bs p)) _ P (if_located bs (gate_at bs p) P (λ e r. text [] (drop p bs) e (omega arith) refl (gate_err bs p e low r))) (λ g e.
     let own = g.0.own in
     let ops : ℕ × ℕ = (g.0.left, g.0.right) in
-    let line = gate_back bs p g (told_ok (located_at bs) _ _ e) in
+    let gate = told_ok (located_at bs) _ _ e in
+    let line = gate_back bs p g gate in
     if_keep (λ e. e) t (gate_fits g.0 i k) _ P
     (gate_told P g.0 i k (λ rule b.
     let due : 2 * (i + 1 + k) ≡ 2 * (i + 1 + k + 0) = omega arith in
@@ -180,16 +197,19 @@ gates_told P (suc n) i k p bs t text f =
     (λ u fit.
     let fits = fits_back g.0 i k u fit in
     let good = subst (λ (own : ℕ). NumberLine (own ∷ g.0.left ∷ g.0.right ∷ []) (drop p bs) (drop g.1 bs)) fits.0 line in
-    gates_told P n i (k + 1) g.1 bs _ text (λ gs own' g' here rest rule among lines numbers b.
-    let more : GateLines i k (ops ∷ gs) (drop p bs) here = (drop g.1 bs, (omega (arith, fits.0, fits.1), omega (arith, fits.0, fits.2), good), lines) in
+    let more : (gs : List (ℕ × ℕ)) (here : List ℕ) → GateLines i (k + 1) gs (drop g.1 bs) here → GateLines i k (ops ∷ gs) (drop p bs) here =
+    λ gs here lines. (drop g.1 bs, (omega (arith, fits.0, fits.1), omega (arith, fits.0, fits.2), good), lines) in
+    gates_told P n i (k + 1) g.1 bs _ (gate_within bs p g gate) (λ gs here e among lines wrong. text (ops ∷ gs) here e (omega arith) (more gs here lines) wrong)
+    (λ gs own' g' here rest rule among lines numbers b.
     let due : 2 * (i + 1 + (k + 1) + length gs) ≡ 2 * (i + 1 + k + suc (length gs)) = omega arith in
     let line_is : i + 3 + k + suc (length gs) ≡ i + 3 + (k + 1) + length gs = omega arith in
-    subst (λ (l : ℕ). P (Broken rule l)) line_is (f (ops ∷ gs) own' g' here rest rule (omega arith) more numbers (subst (λ (d : ℕ). GateBreaks d own' g' rule) due b)))))
+    subst (λ (l : ℕ). P (Broken rule l)) line_is
+    (f (ops ∷ gs) own' g' here rest rule (omega arith) (more gs here lines) numbers (subst (λ (d : ℕ). GateBreaks d own' g' rule) due b)))))
 
 -- the whole file
 
 -- the rule of a gate's line that is broken
-gate_rule : (bs : List ℕ) (w : ℕ) (due own : ℕ) (g : ℕ × ℕ) (rule : Rule) (line : ℕ) → GateBreaks due own g rule → GateBroken bs w rule line → RuleBroken bs w (Broken rule line)
+gate_rule : (bs : List ℕ) (w : ℕ) (due own : ℕ) (g : ℕ × ℕ) (rule : Rule) (line : ℕ) → GateBreaks due own g rule → GateBroken bs w rule line → Says bs w (Broken rule line)
 gate_rule bs w due own g InputCount line b r = absurd b
 gate_rule bs w due own g LatchCount line b r = absurd b
 gate_rule bs w due own g OutputCount line b r = absurd b
@@ -246,42 +266,55 @@ symbol_line bs w h gs after place g count s =
 
 -- a fault of the symbol lines
 symbol_told : (bs : List ℕ) (w : ℕ) (h : Header) (gs : List (ℕ × ℕ)) (p : ℕ) → UpToGates bs w h gs (drop p bs) → length gs ≡ h.gates
-    → (e : SymbolFault) → ran (length bs) bs (first p h.inputs) ≡ Err e → RuleBroken bs w (refused_at bs e)
-symbol_told bs w h gs p g count (SymbolText e) r = tt
+    → (e : SymbolFault) → ran (length bs) bs (first p h.inputs) ≡ Err e → Says bs w (refused_at bs e)
+symbol_told bs w h gs p g count (SymbolText e) r =
+    let s = symbols_back bs (MisreadBy e) p h.inputs r in
+    let i = g.inputs in
+    let apart = free_apart h.inputs s.symbols i.limits.inputs (all_in h.inputs s.symbols (drop p bs) s.here s.lines) s.free in
+    (malformed bs w closing s.here e (at_closing h gs s.symbols (drop p bs) s.here g count s.lines apart) (lost_of bs e h.inputs (replicate slots false) (drop p bs) s), refl)
 symbol_told bs w h gs p g count (NoSlot place) r = symbol_line bs w h gs (drop p bs) place g count (symbols_back bs (Refused place) p h.inputs r)
 
 module _ (bs : List ℕ) (w : ℕ) (few : length bs ≤ max_file_bytes) where
-  lines_told : (t : List ℕ) → length t ≡ w → IfErr (lines_of bs t).1 (RuleBroken bs w)
+  lines_told : (t : List ℕ) → length t ≡ w → IfErr (lines_of bs t).1 (Says bs w)
   lines_told t size =
-      let P = RuleBroken bs w in
-      let r = located_in bs (header_read bs) in
-      if_keep Text t r _ P (of_each r _ (λ l. tt)) (λ a ea.
+      let P = Says bs w in
+      if_keep Text t (located_in bs (header_read bs)) _ P
+      (if_located bs (header_read bs) P (λ e er. (malformed bs w header bs e (at_header few) (header_err bs e er), refl))) (λ a ea.
       let h = a.0 in
-      let header = header_back bs a (told_ok (located_at bs) _ _ ea) in
-      if_keep (λ e. e) t (header_fits h (length t)) _ P (subst (λ (n : ℕ). IfErr (header_fits h n) P) (sym size) (header_told bs w few h (drop a.1 bs) header)) (λ u eu.
+      let read = told_ok (located_at bs) _ _ ea in
+      let line1 = header_back bs a read in
+      let low1 = header_within bs a read in
+      if_keep (λ e. e) t (header_fits h (length t)) _ P (subst (λ (n : ℕ). IfErr (header_fits h n) P) (sym size) (header_told bs w few h (drop a.1 bs) line1)) (λ u eu.
       let limits : Within h w = limits_back h w u (sym (ap (header_fits h) size) ∙ eu) in
       if_keep (λ e. e) t (inputs_at bs a.1 1 h.inputs) _ P
-      (inputs_told P h.inputs 1 a.1 bs (λ l. tt) (λ j v here rest among lines number wrong. record {
+      (inputs_told P h.inputs 1 a.1 bs low1
+      (λ j here e among lines wrong. (malformed bs w (numbers 0) here e (at_input h j here (record { few = few; limits = limits; after_header = drop a.1 bs; header = line1; inputs = lines }) among) wrong, refl))
+      (λ j v here rest among lines number wrong. record {
         h = h;
         k = j;
         v = v;
         here = here;
         rest = rest;
-        before = record { few = few; limits = limits; after_header = drop a.1 bs; header = header; inputs = lines };
+        before = record { few = few; limits = limits; after_header = drop a.1 bs; header = line1; inputs = lines };
         among = among;
         number = number;
         breaks = λ e. wrong (omega (arith, e));
         line_is = omega arith;
       }))
       (λ q eq.
-      let inputs : UpToInputs bs w h h.inputs (drop q bs) = record { few = few; limits = limits; after_header = drop a.1 bs; header = header; inputs = inputs_back h.inputs 1 a.1 q bs eq } in
+      let inputs : UpToInputs bs w h h.inputs (drop q bs) = record { few = few; limits = limits; after_header = drop a.1 bs; header = line1; inputs = inputs_back h.inputs 1 a.1 q bs eq } in
+      let low2 = inputs_within h.inputs 1 a.1 q bs low1 eq in
       if_keep (λ e. e) t (output_at bs q h.highest h.inputs) _ P
-      (output_told P h.highest h.inputs q bs (λ l. tt) (λ v rest number above. record { h = h; v = v; here = drop q bs; rest = rest; before = inputs; number = number; breaks = above; line_is = refl }))
+      (output_told P h.highest h.inputs q bs low2 (λ e wrong. (malformed bs w (numbers 0) (drop q bs) e (at_output h (drop q bs) inputs) wrong, refl)) (λ v rest number above. record { h = h; v = v; here = drop q bs; rest = rest; before = inputs; number = number; breaks = above; line_is = refl }))
       (λ o eo.
       let out = output_back bs q h.highest h.inputs o eo in
       let g = gates_at bs h.inputs 0 h.gates o.1 t in
+      let till_gate : (gs : List (ℕ × ℕ)) (here : List ℕ) → GateLines h.inputs 0 gs (drop o.1 bs) here → UpToGates bs w h gs here =
+      λ gs here lines. record { after_inputs = drop q bs; after_output = drop o.1 bs; inputs = inputs; output = o.0; output_line = out.1; output_below = out.0; gates = lines } in
       if_keep (λ e. e) g.0 g.1 _ P
-      (gates_told P h.gates h.inputs 0 o.1 bs t (λ l. tt) (λ gs own ops here rest rule among lines numbers b.
+      (gates_told P h.gates h.inputs 0 o.1 bs t (output_within bs q h.highest h.inputs o eo)
+      (λ gs here e among lines wrong. (malformed bs w (numbers 2) here e (at_gate h gs here (till_gate gs here lines) among) wrong, refl))
+      (λ gs own ops here rest rule among lines nums b.
       let line_is : h.inputs + 3 + length gs ≡ h.inputs + 3 + 0 + length gs = omega arith in
       let due : 2 * (h.inputs + 1 + 0 + length gs) ≡ 2 * (h.inputs + 1 + length gs) = omega arith in
       gate_rule bs w _ own ops rule _ b (record {
@@ -291,21 +324,19 @@ module _ (bs : List ℕ) (w : ℕ) (few : length bs ≤ max_file_bytes) where
         g = ops;
         here = here;
         rest = rest;
-        before = record { after_inputs = drop q bs; after_output = drop o.1 bs; inputs = inputs; output = o.0; output_line = out.1; output_below = out.0; gates = lines };
+        before = till_gate gs here lines;
         among = among;
-        numbers = numbers;
+        numbers = nums;
         breaks = subst (λ (d : ℕ). GateBreaks d own ops rule) due b;
         line_is = sym line_is;
       })))
       (λ p ep.
       let back = gates_back h.gates h.inputs 0 o.1 p bs t g.0 (λ j. (g.0, ep j)) in
-      let before : UpToGates bs w h back.0 (drop p bs) =
-      record { after_inputs = drop q bs; after_output = drop o.1 bs; inputs = inputs; output = o.0; output_line = out.1; output_below = out.0; gates = back.2 } in
-      symbols_told P bs (ran (length bs) bs (first p h.inputs)) _ (symbol_told bs w h back.0 p before back.1))))))
+      symbols_told P bs (ran (length bs) bs (first p h.inputs)) _ (symbol_told bs w h back.0 p (till_gate back.0 (drop p bs) back.2) back.1))))))
 
-into_told : (bs : List ℕ) (w : ℕ) → IfErr (into_of bs (replicate w 0)).1 (RuleBroken bs w)
+into_told : (bs : List ℕ) (w : ℕ) → IfErr (into_of bs (replicate w 0)).1 (Says bs w)
 into_told bs w =
-    cond_both (ltb max_file_bytes (length bs)) _ _ (λ (a : Answer). IfErr a.1 (RuleBroken bs w)) (λ _. tt)
+    cond_both (ltb max_file_bytes (length bs)) _ _ (λ (a : Answer). IfErr a.1 (Says bs w)) (λ t. (ltb-true _ _ t, refl))
     (λ e. lines_told bs w (ltb-false _ _ e) (replicate w 0) (length-replicate w 0))
 
 settled_told : (P : CircuitFault → Type 0) (n : ℕ) (t : List ℕ) (r : Result Reading CircuitFault) → IfErr r P → IfErr (settled n t r).1 P
@@ -315,8 +346,10 @@ settled_told P n t (Err e) h = h
 if_is : (P : CircuitFault → Type 0) (r : Result Reading CircuitFault) (e : CircuitFault) → r ≡ Err e → IfErr r P → P e
 if_is P r e same h = subst (λ (r : Result Reading CircuitFault). IfErr r P) same h
 
-pub refused_rule : (bs : List ℕ) (n : ℕ) (z : List ℕ) (r : Result Reading CircuitFault) → ◌≡◌ {A = Answer} (z, r) (read_of bs n)
-    → (rule : Rule) (line : ℕ) → r ≡ Err (Broken rule line) → BrokenBy bs n rule line
-refused_rule bs n z r e rule line same =
+pub refusal : (bs : List ℕ) (n : ℕ) (z : List ℕ) (r : Result Reading CircuitFault) → ◌≡◌ {A = Answer} (z, r) (read_of bs n) → (e : CircuitFault) → r ≡ Err e → Says bs n e
+refusal bs n z r e fault same =
     let i = into_of bs (replicate n 0) in
-    if_is (RuleBroken bs n) r (Broken rule line) same (subst (λ (a : Answer). IfErr a.1 (RuleBroken bs n)) (sym e) (settled_told (RuleBroken bs n) n i.0 i.1 (into_told bs n)))
+    if_is (Says bs n) r fault same (subst (λ (a : Answer). IfErr a.1 (Says bs n)) (sym e) (settled_told (Says bs n) n i.0 i.1 (into_told bs n)))
+
+pub misread : (bs : List ℕ) (n : ℕ) (z : List ℕ) (r : Result Reading CircuitFault) → ◌≡◌ {A = Answer} (z, r) (read_of bs n) → Misread bs n r
+misread bs n z r e fault line same = refusal bs n z r e (Text (record { fault = fault; line = line })) same

@@ -1,12 +1,12 @@
 -- The texts that may stand where the symbol machine stands, and their first bytes. Assumes nothing.
-use Rattle.std.proofs.Common.{◌≡◌, ℕ, zero, suc, ◌+◌, ◌<◌, ◌≤◌, true, List, [], ◌∷◌, ◌++◌, length, get_or, drop, Some, None, Option, slice_get, sym, refl, ap, ◌∙◌, subst, inl, inr, ◌⊎◌, arith}
+use Rattle.std.proofs.Common.{◌≡◌, ℕ, zero, suc, ◌+◌, ◌<◌, ◌≤◌, true, List, [], ◌∷◌, ◌++◌, length, drop, Some, None, Option, slice_get, sym, refl, ap, ◌∙◌, subst, inl, inr, ◌⊎◌, arith}
 use Rattle.std.proofs.lemmas.Bool.{true≢false}
 use Rattle.faults.specs.declared.text.TextFault.{TextFault}
 use Rattle.faults.specs.declared.text.TextFault.TheVariants.{Misfit}
 use Rattle.text.specs.Numbers.{is_digit}
 use Rattle.text.specs.Classes.{class_of}
 use Rattle.aiger.specs.Symbols.{max_name, nameable}
-use Rattle.aiger.specs.Grammar.{letter_byte, NameBytes, Ending}
+use Rattle.aiger.specs.Grammar.{letter_byte, NameBytes}
 use Rattle.aiger.specs.Malformed.{closing, Begins, Anything, Byte, Digits, NameRest, Loose}
 use Rattle.aiger.specs.declared.states.Letter.{Letter}
 use Rattle.aiger.specs.declared.states.Letter.TheVariants.{Input, Output}

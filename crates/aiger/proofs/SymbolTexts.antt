@@ -1,6 +1,6 @@
 -- What may stand from a place on, by where the symbol machine stands there, that makes it accept the lines, refuse a position or
 -- find a line malformed. Assumes nothing.
-use Rattle.std.proofs.Common.{◌≡◌, ℕ, ◌+◌, ◌-◌, ◌≤◌, Bool, true, false, List, [], ◌∷◌, ◌++◌, length, get_or, drop, set, Some, None, Ok, Err, Result, ltb, eqb, inl, inr, ◌⊎◌, ⊎_elim, refl, arith}
+use Rattle.std.proofs.Common.{◌≡◌, ℕ, ◌+◌, Bool, true, false, List, [], ◌∷◌, ◌++◌, get_or, drop, set, Some, None, Ok, Err, Result, ltb, eqb, inl, inr, ◌⊎◌, ⊎_elim, refl, arith}
 use Rattle.std.proofs.lemmas.Bool.Decides.{nat_tests}
 use Rattle.std.proofs.lemmas.Bool.{cond-false, cases_Bool, eqb-true, ltb-true}
 use Rattle.circuit.specs.Limits.{max_inputs}

@@ -28,7 +28,7 @@ use Rattle.aiger.proofs.Pieces.{byte_on, number_stuck, number_on}
 use Rattle.aiger.proofs.LineFaults.{behind}
 use Rattle.aiger.proofs.SymbolForms.{Short, going_some, Allowed, Lost, lost_here, lost_letter, lost_comment, lost_name}
 use Rattle.aiger.proofs.SymbolSteps.{Step, going, ran, onward}
-use Rattle.aiger.proofs.SymbolTexts.{Verdict, Accepted, Refused, Misread, answer, Accepts, place, Taken, Astray, Lines, After, Named, Rest, ended, accepts, slot_back, slot_none}
+use Rattle.aiger.proofs.SymbolTexts.{Verdict, Accepted, Refused, Misread, answer, place, Taken, Astray, Lines, After, Rest, ended, accepts, slot_back, slot_none}
 
 abbrev Answer : Type 0
 Answer = Result (Unit {0}) SymbolFault

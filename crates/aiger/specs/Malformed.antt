@@ -8,7 +8,7 @@
 --   misfit       no line of the kind goes on as the file does at the place, nor would one with any digits for a number
 --   bad number   only a number can go on at the place, and the digits there are none
 --   malformed    the file is so at the place of a fault of the text, or it has too many bytes
-use Rattle.std.specs.Prelude.{◌≡◌, ℕ, zero, suc, ◌+◌, ◌<◌, ◌≤◌, ◌⊎◌, true, Some, Err, Result, List, [], ◌∷◌, ◌++◌, length, slice_get}
+use Rattle.std.specs.Prelude.{◌≡◌, ℕ, zero, suc, ◌+◌, ◌<◌, ◌≤◌, ◌⊎◌, true, Some, Err, Result, List, ◌∷◌, ◌++◌, length, slice_get}
 use Rattle.circuit.specs.declared.reading.Reading.{Reading}
 use Rattle.faults.specs.Reports.{max_file_bytes}
 use Rattle.faults.specs.declared.text.TextFault.{TextFault}

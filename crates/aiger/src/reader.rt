@@ -3,6 +3,7 @@ ghost use Rattle.std.specs.Prelude.{◌≡◌, length};
 ghost use Rattle.aiger.specs.Reads.{into_of, read_of};
 ghost use Rattle.aiger.specs.Grammar.{Exactly};
 ghost use Rattle.aiger.specs.Refused.{Told};
+ghost use Rattle.aiger.specs.Malformed.{Misread};
 
 use crate::file::File;
 use crate::gates::gate_lines;
@@ -31,11 +32,13 @@ fn read_into(bytes: &[u8], table: &mut [u32]) -> Result<Reading, CircuitFault>
 }
 
 // Reads a circuit: its numbers, and two words a gate in the table, the larger operand first, with 0 in all further
-// words. Where the file is refused the whole table is 0, and a rule that is told is the first that the file breaks.
+// words. Where the file is refused the whole table is 0, and what is told is the first rule that the file breaks, or the first
+// place at which a line has not the form of its kind.
 pub fn read(file: &[u8], table: &mut [u32]) -> Result<Reading, CircuitFault>
     ensures value { (table.new, result) ≡ read_of file.now (length table.old) }
     ensures written { Exactly file.now (length table.old) table.new result }
     ensures told { Told file.now (length table.old) result }
+    ensures misread { Misread file.now (length table.old) result }
 {
     table.fill(0);
     let answer = read_into(file, table);
