@@ -21,14 +21,15 @@ use Rattle.aiger.specs.declared.states.SymbolFault.{SymbolFault}
 use Rattle.aiger.specs.declared.states.SymbolFault.TheVariants.{NoSlot}
 use Rattle.aiger.specs.Reads.{Answer, lines_of, into_of, settled, read_of, rest_of, body_of}
 use Rattle.aiger.specs.Grammar.{NumberLine, InputLines, GateLines}
-use Rattle.aiger.specs.Refused.{Keeps, HeaderBroken, UpToInputs, InputBroken, OutputBroken, UpToGates, GateBreaks, GateBroken, SymbolBroken, BrokenBy, Told}
+use Rattle.aiger.specs.Refused.{Keeps, HeaderBroken, UpToInputs, InputBroken, OutputBroken, UpToGates, GateBreaks, GateBroken, SymbolBroken, BrokenBy}
+use Rattle.aiger.specs.Told.{Told}
 use Rattle.aiger.specs.declared.header.Header.{Header}
 use Rattle.aiger.proofs.SymbolSteps.{ran}
 use Rattle.aiger.proofs.HeaderTexts.{header_read_lem, limits_read}
 use Rattle.aiger.proofs.NumberTexts.{number_line_read}
 use Rattle.aiger.proofs.LiteralTexts.{inputs_read, output_read}
 use Rattle.aiger.proofs.GateTexts.{gate_of, gate_read, fits_read, filled, gates_read}
-use Rattle.aiger.proofs.RefusedRules.{range_false, range_true, equal_false, equal_true, less_true, lines_cut, refusal}
+use Rattle.aiger.proofs.RefusedRules.{range_false, range_true, equal_false, equal_true, less_true, lines_cut, says}
 use Rattle.aiger.proofs.Apart.{all_in, apart_free, breaks_taken}
 use Rattle.aiger.proofs.LineCounts.{at_place}
 use Rattle.aiger.proofs.SymbolTexts.{Refused, Lines}
@@ -251,6 +252,6 @@ pub rules_told : (bs : List ℕ) (n : ℕ) (z : List ℕ) (r : Result Reading Ci
 rules_told bs n z r e =
     let i = into_of bs (replicate n 0) in
     record {
-      breaks = λ rule line same. refusal bs n z r e (Broken rule line) same;
+      says = says bs n z r e;
       tells = λ rule line b. ap (λ (a : Answer). a.1) e ∙ ap (λ (x : Result Reading CircuitFault). (settled n i.0 x).1) (told bs n rule line b);
     }

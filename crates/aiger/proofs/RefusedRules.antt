@@ -16,13 +16,14 @@ use Rattle.text.specs.Runs.{next}
 use Rattle.text.specs.Places.{line_of}
 use Rattle.faults.specs.declared.text.TextFault.{TextFault}
 use Rattle.faults.specs.declared.text.TextFault.TheVariants.{TooLong, Misfit, BadNumber}
-use Rattle.aiger.specs.FaultLines.{fault_line, located_at, located_in}
+use Rattle.aiger.specs.FaultLines.{located_at, located_in}
 use Rattle.aiger.specs.Lines.{up, keep, Within, header_read, header_fits, inputs_at, output_at, gate_at, gate_fits, gates_at}
 use Rattle.aiger.specs.Symbols.{slots, first, refused_at}
 use Rattle.aiger.specs.Reads.{Answer, lines_of, into_of, settled, read_of}
 use Rattle.aiger.specs.Grammar.{NumberLine, HeaderLine, InputLines, GateLines, Symbol, SymbolForm, SymbolLines}
-use Rattle.aiger.specs.Malformed.{Kind, header, numbers, closing, Begins, Loose, Due, at_header, at_input, at_output, at_gate, at_closing, Malformed, Misread}
-use Rattle.aiger.specs.Refused.{Keeps, HeaderBroken, UpToInputs, UpToGates, GateBreaks, GateBroken, SymbolBroken, BrokenBy}
+use Rattle.aiger.specs.Malformed.{Kind, header, numbers, closing, Begins, Loose, Due, at_header, at_input, at_output, at_gate, at_closing, Malformed}
+use Rattle.aiger.specs.Told.{Says}
+use Rattle.aiger.specs.Refused.{Keeps, HeaderBroken, UpToInputs, UpToGates, GateBreaks, GateBroken, SymbolBroken}
 use Rattle.aiger.specs.declared.gates.Gate.{Gate}
 use Rattle.aiger.specs.declared.header.Header.{Header}
 use Rattle.aiger.specs.declared.states.SymbolFault.{SymbolFault}
@@ -35,15 +36,10 @@ use Rattle.aiger.proofs.SymbolSteps.{ran}
 use Rattle.aiger.proofs.Apart.{all_in, free_apart, taken_breaks}
 use Rattle.aiger.proofs.Pieces.{Faulty}
 use Rattle.aiger.proofs.LineFaults.{literal_err, gate_err, header_err, item_within, gate_within, header_within, inputs_within, output_within}
-use Rattle.aiger.proofs.SymbolTexts.{Refused, Misread as MisreadBy, Lines, last_of, lost_of}
+use Rattle.aiger.proofs.SymbolTexts.{Refused, Misread, Lines, last_of, lost_of}
 use Rattle.aiger.proofs.SymbolsBack.{symbols_back}
 use Rattle.aiger.proofs.LineCounts.{Cut, join, line_cut, header_cut, inputs_cut, gates_cut, form_cut, symbols_cut, at_place}
 use Rattle.aiger.proofs.GateTexts.{gate_back, fits_back, gates_back}
-
--- what a fault says of the file
-abbrev Says : List ℕ → ℕ → CircuitFault → Type 0
-Says file words (Text located) = Malformed file words located.fault × (located.line ≡ fault_line file located.fault)
-Says file words (Broken rule line) = BrokenBy file words rule line
 
 -- of a line that is due
 malformed : (file : List ℕ) (words : ℕ) (kind : Kind) (here : List ℕ) (e : TextFault) → Due file words kind here → Faulty (Begins kind) (Loose kind) file here e → Malformed file words e
@@ -268,7 +264,7 @@ symbol_line bs w h gs after place g count s =
 symbol_told : (bs : List ℕ) (w : ℕ) (h : Header) (gs : List (ℕ × ℕ)) (p : ℕ) → UpToGates bs w h gs (drop p bs) → length gs ≡ h.gates
     → (e : SymbolFault) → ran (length bs) bs (first p h.inputs) ≡ Err e → Says bs w (refused_at bs e)
 symbol_told bs w h gs p g count (SymbolText e) r =
-    let s = symbols_back bs (MisreadBy e) p h.inputs r in
+    let s = symbols_back bs (Misread e) p h.inputs r in
     let i = g.inputs in
     let apart = free_apart h.inputs s.symbols i.limits.inputs (all_in h.inputs s.symbols (drop p bs) s.here s.lines) s.free in
     (malformed bs w closing s.here e (at_closing h gs s.symbols (drop p bs) s.here g count s.lines apart) (lost_of bs e h.inputs (replicate slots false) (drop p bs) s), refl)
@@ -346,10 +342,7 @@ settled_told P n t (Err e) h = h
 if_is : (P : CircuitFault → Type 0) (r : Result Reading CircuitFault) (e : CircuitFault) → r ≡ Err e → IfErr r P → P e
 if_is P r e same h = subst (λ (r : Result Reading CircuitFault). IfErr r P) same h
 
-pub refusal : (bs : List ℕ) (n : ℕ) (z : List ℕ) (r : Result Reading CircuitFault) → ◌≡◌ {A = Answer} (z, r) (read_of bs n) → (e : CircuitFault) → r ≡ Err e → Says bs n e
-refusal bs n z r e fault same =
+pub says : (bs : List ℕ) (n : ℕ) (z : List ℕ) (r : Result Reading CircuitFault) → ◌≡◌ {A = Answer} (z, r) (read_of bs n) → (e : CircuitFault) → r ≡ Err e → Says bs n e
+says bs n z r e fault same =
     let i = into_of bs (replicate n 0) in
     if_is (Says bs n) r fault same (subst (λ (a : Answer). IfErr a.1 (Says bs n)) (sym e) (settled_told (Says bs n) n i.0 i.1 (into_told bs n)))
-
-pub misread : (bs : List ℕ) (n : ℕ) (z : List ℕ) (r : Result Reading CircuitFault) → ◌≡◌ {A = Answer} (z, r) (read_of bs n) → Misread bs n r
-misread bs n z r e fault line same = refusal bs n z r e (Text (record { fault = fault; line = line })) same

@@ -5,3 +5,4 @@ pub mod Reads
 pub mod Grammar
 pub mod Refused
 pub mod Malformed
+pub mod Told

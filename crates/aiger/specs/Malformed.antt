@@ -8,15 +8,11 @@
 --   misfit       no line of the kind goes on as the file does at the place, nor would one with any digits for a number
 --   bad number   only a number can go on at the place, and the digits there are none
 --   malformed    the file is so at the place of a fault of the text, or it has too many bytes
-use Rattle.std.specs.Prelude.{◌≡◌, ℕ, zero, suc, ◌+◌, ◌<◌, ◌≤◌, ◌⊎◌, true, Some, Err, Result, List, ◌∷◌, ◌++◌, length, slice_get}
-use Rattle.circuit.specs.declared.reading.Reading.{Reading}
+use Rattle.std.specs.Prelude.{◌≡◌, ℕ, zero, suc, ◌+◌, ◌<◌, ◌≤◌, ◌⊎◌, true, Some, List, ◌∷◌, ◌++◌, length, slice_get}
 use Rattle.faults.specs.Reports.{max_file_bytes}
 use Rattle.faults.specs.declared.text.TextFault.{TextFault}
 use Rattle.faults.specs.declared.text.TextFault.TheVariants.{TooLong, Misfit, BadNumber}
-use Rattle.faults.specs.declared.circuit.CircuitFault.{CircuitFault}
-use Rattle.faults.specs.declared.circuit.CircuitFault.TheVariants.{Text}
 use Rattle.text.specs.Numbers.{is_digit, AllDigits, digits}
-use Rattle.aiger.specs.FaultLines.{fault_line}
 use Rattle.aiger.specs.Symbols.{max_name}
 use Rattle.aiger.specs.Grammar.{Numeral, NumberLine, HeaderLine, Symbol, letter_byte, NameBytes, SymbolForm, SymbolLines, Apart, Ending}
 use Rattle.aiger.specs.Refused.{UpToInputs, UpToGates}
@@ -100,8 +96,3 @@ abbrev pub Malformed : List ℕ → ℕ → TextFault → Type 0
 Malformed file words TooLong = max_file_bytes < length file
 Malformed file words (Misfit place) = MisfitAt file words place
 Malformed file words (BadNumber place) = BadNumberAt file words place
-
--- what an answer says of the text: only of a malformed file, and with the line of the place
-abbrev pub Misread : List ℕ → ℕ → Result Reading CircuitFault → Type 0
-Misread file words answer =
-    (fault : TextFault) (line : ℕ) → answer ≡ Err (Text (record { fault = fault; line = line })) → Malformed file words fault × (line ≡ fault_line file fault)

@@ -5,16 +5,11 @@
 --   up to inputs   line 1 is right, and so are the lines of the first k inputs; rest stands after them
 --   up to gates    the same up to the output, and the lines of these gates
 --   broken         a line of the form that is due breaks the rule; here is the text that begins with it
---   told           an answer tells a rule and a line exactly when the file breaks that rule on that line in this way. Of a
---                  fault of the text it says only that no such file gets one
-use Rattle.std.specs.Prelude.{◌≡◌, ℕ, ◌+◌, ◌*◌, ◌<◌, ◌≤◌, List, [], ◌∷◌, length, Err, Result}
+use Rattle.std.specs.Prelude.{◌≡◌, ℕ, ◌+◌, ◌*◌, ◌<◌, ◌≤◌, List, [], ◌∷◌, length}
 use Rattle.circuit.specs.Limits.{max_inputs, max_gates}
-use Rattle.circuit.specs.declared.reading.Reading.{Reading}
 use Rattle.faults.specs.Reports.{max_file_bytes, rule_number}
 use Rattle.faults.specs.declared.circuit.Rule.{Rule}
 use Rattle.faults.specs.declared.circuit.Rule.TheVariants.{InputCount, LatchCount, OutputCount, GateCount, HighestVariable, GateTable, InputLine, OutputLiteral, GateLiteral, Operand, SymbolPosition}
-use Rattle.faults.specs.declared.circuit.CircuitFault.{CircuitFault}
-use Rattle.faults.specs.declared.circuit.CircuitFault.TheVariants.{Broken}
 use Rattle.aiger.specs.Lines.{Within}
 use Rattle.aiger.specs.Grammar.{NumberLine, HeaderLine, InputLines, GateLines, Symbol, InRange, SymbolForm, SymbolLines, OtherThan, Apart}
 use Rattle.aiger.specs.declared.header.Header.{Header}
@@ -140,7 +135,3 @@ BrokenBy file words OutputLiteral line = OutputBroken file words line
 BrokenBy file words GateLiteral line = GateBroken file words GateLiteral line
 BrokenBy file words Operand line = GateBroken file words Operand line
 BrokenBy file words SymbolPosition line = SymbolBroken file words line
-
-pub record Told (file : List ℕ) (words : ℕ) (answer : Result Reading CircuitFault) : Type 0 where
-  pub breaks : (rule : Rule) (line : ℕ) → answer ≡ Err (Broken rule line) → BrokenBy file words rule line
-  pub tells : (rule : Rule) (line : ℕ) → BrokenBy file words rule line → answer ≡ Err (Broken rule line)

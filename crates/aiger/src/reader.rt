@@ -2,8 +2,7 @@
 ghost use Rattle.std.specs.Prelude.{◌≡◌, length};
 ghost use Rattle.aiger.specs.Reads.{into_of, read_of};
 ghost use Rattle.aiger.specs.Grammar.{Exactly};
-ghost use Rattle.aiger.specs.Refused.{Told};
-ghost use Rattle.aiger.specs.Malformed.{Misread};
+ghost use Rattle.aiger.specs.Told.{Told};
 
 use crate::file::File;
 use crate::gates::gate_lines;
@@ -38,7 +37,6 @@ pub fn read(file: &[u8], table: &mut [u32]) -> Result<Reading, CircuitFault>
     ensures value { (table.new, result) ≡ read_of file.now (length table.old) }
     ensures written { Exactly file.now (length table.old) table.new result }
     ensures told { Told file.now (length table.old) result }
-    ensures misread { Misread file.now (length table.old) result }
 {
     table.fill(0);
     let answer = read_into(file, table);

@@ -1,7 +1,6 @@
 use Rattle.std.proofs.Common.{◌≡◌, length, rules}
 use Rattle.aiger.specs.Reads.{Answer, read_of}
 use Rattle.aiger.proofs.Exact.{exact}
-use Rattle.aiger.proofs.RefusedRules.{misread}
 use Rattle.aiger.proofs.BrokenTold.{rules_told}
 use Rattle.aiger.proofs.reader.read.Goals as goal
 
@@ -15,11 +14,6 @@ returns-then-is_err-clause-told c =
     let v : ◌≡◌ {A = Answer} (c.fill-then-is_err.new.self, c.read_into-answer.result) (read_of c.args.file.now (length c.args.table.now)) = search rules in
     rules_told c.args.file.now (length c.args.table.now) _ _ v
 
-pub returns-then-is_err-clause-misread : goal.returns-then-is_err-clause-misread
-returns-then-is_err-clause-misread c =
-    let v : ◌≡◌ {A = Answer} (c.fill-then-is_err.new.self, c.read_into-answer.result) (read_of c.args.file.now (length c.args.table.now)) = search rules in
-    misread c.args.file.now (length c.args.table.now) _ _ v
-
 pub returns-else-is_err-clause-written : goal.returns-else-is_err-clause-written
 returns-else-is_err-clause-written c =
     let v : ◌≡◌ {A = Answer} (c.read_into-answer.new.table, c.read_into-answer.result) (read_of c.args.file.now (length c.args.table.now)) = search rules in
@@ -29,8 +23,3 @@ pub returns-else-is_err-clause-told : goal.returns-else-is_err-clause-told
 returns-else-is_err-clause-told c =
     let v : ◌≡◌ {A = Answer} (c.read_into-answer.new.table, c.read_into-answer.result) (read_of c.args.file.now (length c.args.table.now)) = search rules in
     rules_told c.args.file.now (length c.args.table.now) _ _ v
-
-pub returns-else-is_err-clause-misread : goal.returns-else-is_err-clause-misread
-returns-else-is_err-clause-misread c =
-    let v : ◌≡◌ {A = Answer} (c.read_into-answer.new.table, c.read_into-answer.result) (read_of c.args.file.now (length c.args.table.now)) = search rules in
-    misread c.args.file.now (length c.args.table.now) _ _ v
