@@ -3,6 +3,8 @@
 --   answered   the result, the answer and the text memory afterwards; the result is 0 or the refusal's number
 -- Assumes nothing.
 use Rattle.std.specs.Prelude.{◌≡◌, ℕ, ◌≤◌, ◌⊎◌, List, Ok, Err, Result}
+use Rattle.faults.specs.declared.circuit.CircuitFault.{CircuitFault}
+use Rattle.faults.specs.declared.job.Fault.TheVariants.{Circuit as OfCircuit}
 use Rattle.faults.specs.declared.job.JobFault.{JobFault}
 use Rattle.faults.specs.declared.job.Stage.{Stage}
 use Rattle.faults.specs.declared.job.Stage.TheVariants.{Reading, Deciding, Listing as ListingStage}
@@ -10,7 +12,9 @@ use Rattle.faults.specs.declared.report.Layer.{Layer}
 use Rattle.faults.specs.declared.report.Layer.TheVariants.{Text, Circuit, Listing, Table}
 use Rattle.faults.specs.declared.report.Report.{Report}
 use Rattle.faults.specs.Reports.{report_of}
-use Rattle.jobs.specs.Lists.{Outcome}
+use Rattle.jobs.specs.Lists.{Outcome, at_reading}
+use Rattle.jobs.specs.Sizes.{enough}
+use Rattle.jobs.specs.Told.{SaysOf}
 use Rattle.capi.specs.declared.answer.Answer.{Answer}
 
 abbrev pub layer_code : Layer → ℕ
@@ -44,3 +48,7 @@ answered outcome = ((answer_of outcome.0).number, answer_of outcome.0, outcome.1
 -- 0, or a refusal of the file (but for its gate table), of the mode, or of a list of more cubes than there are entries
 abbrev pub DueNumber : ℕ → Type 0
 DueNumber n = ((n ≤ 15) × (n ≡ 9 → ⊥)) ⊎ (n ≡ 18)
+
+-- an answer that refuses the file while reading is of a fault that says the truth of it
+abbrev pub Truthful : List ℕ → Answer → Type 0
+Truthful file answer = (answer.number ≡ 0 → ⊥) → answer.stage ≡ stage_code Reading → (fault : CircuitFault) × (answer ≡ refused (at_reading fault)) × SaysOf file enough.gate_table (OfCircuit fault)

@@ -3,7 +3,7 @@ ghost use Rattle.std.specs.Prelude.{◌≡◌, ◌≤◌, length, take};
 ghost use Rattle.jobs.specs.Lists.{list_of};
 ghost use Rattle.jobs.specs.Sizes.{enough, blank_register, text_bytes};
 ghost use Rattle.jobs.specs.Told.{Told};
-ghost use Rattle.capi.specs.Answers.{DueNumber, answered};
+ghost use Rattle.capi.specs.Answers.{DueNumber, Truthful, answered};
 
 use crate::Answer;
 use circuit::{Ternary, Word};
@@ -17,6 +17,7 @@ pub extern "C" fn jerovuha_list(file: &[u8], mode: u32, text: &mut [u8], answer:
     ensures value { (result, answer.new, text.new) ≡ answered (list_of file.now mode enough blank_register text.old) }
     ensures fits { answer.new.length ≤ length text.new }
     ensures due { text_bytes ≤ length text.old → DueNumber result }
+    ensures refused { Truthful file.now answer.new }
     ensures told { result ≡ 0 → Told file.now enough.gate_table mode (take answer.new.length text.new) }
 {
     // On the stack, since the library has no heap and the caller lends only the text.

@@ -6,6 +6,7 @@ ghost use Rattle.listing.specs.Limits.{max_inputs};
 ghost use Rattle.listing.specs.Widest.{lead};
 ghost use Rattle.jobs.specs.Afterwards.{bits_after, gates_after, search_made, table_made, tabulated};
 ghost use Rattle.jobs.specs.Lists.{room_of};
+ghost use Rattle.jobs.specs.Told.{Refusals};
 ghost use Rattle.inspection.specs.Inspections.{smallest_by, summary_of, counted_summary, searched_summary, circuit_summary, inspected};
 ghost use Rattle.inspection.specs.Seen.{Seen};
 ghost use Rattle.search.specs.Searches.{made_of};
@@ -113,6 +114,7 @@ fn look(
 pub fn inspect(file: &[u8], workspace: Workspace) -> Result<Summary, JobFault>
     ensures value { result ≡ inspected file.now (room_of workspace.entry) }
     ensures seen { IfOk result (λ s. Seen file.now (length workspace.entry.gate_table.now) s) }
+    ensures refused { Refusals file.now (length workspace.entry.gate_table.now) result }
     ensures gates { workspace.exit.0.now ≡ gates_after file.now (room_of workspace.entry) }
     ensures bits { workspace.exit.1.0.now ≡ bits_after file.now (room_of workspace.entry) workspace.entry.bits.now }
     ensures words { table_made file.now (room_of workspace.entry) ≡ false → workspace.exit.1.1.0.now ≡ workspace.entry.words.now }

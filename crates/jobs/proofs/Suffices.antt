@@ -18,7 +18,8 @@ use Rattle.circuit.specs.Solutions.{solves}
 use Rattle.circuit.proofs.Room.{given}
 use Rattle.circuit.proofs.WordRows.{few_words}
 use Rattle.aiger.specs.Reads.{read_of}
-use Rattle.aiger.specs.Refused.{Told}
+use Rattle.faults.specs.declared.circuit.CircuitFault.TheVariants.{Broken}
+use Rattle.aiger.specs.Told.{Told}
 use Rattle.aiger.proofs.BrokenTold.{rules_told}
 use Rattle.cubes.specs.declared.entry.Entry.{Entry}
 use Rattle.table.specs.Tables.{table_answer}
@@ -60,7 +61,7 @@ read_roomy bs n room = by (read_of bs n).1 (rules_told bs n _ _ refl)
     by : (r : Result Reading CircuitFault) → Told bs n r → IfErr r (λ e. TableShort e → ⊥)
     by (Ok reading) told = tt
     by (Err e) told = λ short.
-        let broken = told.breaks GateTable short.0 (ap Err short.1) in
+        let broken = told.says (Broken GateTable short.0) (ap Err short.1) in
         broken.breaks (omega (arith, room, broken.others GateCount (omega arith)))
 
 -- ---- a decider is made

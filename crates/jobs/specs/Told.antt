@@ -3,11 +3,19 @@
 --   story        the calls that led to the finished listing; it has no waivers
 --   in a cube    a row that the cube holds
 -- Assumes nothing.
-use Rattle.std.specs.Prelude.{◌≡◌, ℕ, ◌^◌, ◌<◌, Bool, ◌↔◌, List, [], map, Some}
+use Rattle.std.specs.Prelude.{◌≡◌, ℕ, ◌^◌, ◌<◌, Bool, ◌↔◌, List, [], map, Some, Err, Result}
+use Rattle.faults.specs.declared.circuit.Rule.{Rule}
+use Rattle.faults.specs.declared.circuit.CircuitFault.TheVariants.{Broken}
+use Rattle.faults.specs.declared.job.Fault.{Fault}
+use Rattle.faults.specs.declared.job.Fault.TheVariants.{Circuit, Table, Listing}
+use Rattle.faults.specs.declared.job.Stage.TheVariants.{Reading as StageReading}
+use Rattle.faults.specs.declared.job.JobFault.{JobFault}
 use Rattle.circuit.specs.declared.reading.Reading.{Reading}
 use Rattle.circuit.specs.Circuits.{Netlist}
 use Rattle.circuit.specs.Solutions.{solves}
 use Rattle.aiger.specs.Grammar.{Written, gate_words}
+use Rattle.aiger.specs.Refused.{BrokenBy}
+use Rattle.aiger.specs.Told.{Says}
 use Rattle.cubes.specs.declared.cube.Cube.{Cube}
 use Rattle.cubes.specs.declared.entry.Entry.{Entry}
 use Rattle.listing.specs.declared.states.Finished.{Finished}
@@ -15,6 +23,7 @@ use Rattle.listing.specs.Calls.{mode_of, listed_of}
 use Rattle.listing.specs.Stories.{Story, finished}
 use Rattle.listing.specs.Theorem.{in_some, Holds}
 use Rattle.pla.specs.Text.{text_of}
+use Rattle.jobs.specs.Lists.{at_reading}
 
 -- the text is that of a finished list
 pub record Tells (n : ℕ) (S : ℕ → Bool) (mode : ℕ) (text : List ℕ) : Type 0 where
@@ -44,6 +53,19 @@ pub record Told (file : List ℕ) (words mode : ℕ) (text : List ℕ) : Type 0 
   pub gates : List (ℕ × ℕ)
   pub circuit : Written file words reading gates
   pub list : TellsCircuit (circuit_of reading gates) mode text
+
+-- ---- a refused file
+
+-- what a fault that is met while reading says of the file
+abbrev pub SaysOf : List ℕ → ℕ → Fault → Type 0
+SaysOf file words (Circuit fault) = Says file words fault
+SaysOf file words (Table fault) = ⊥
+SaysOf file words (Listing fault) = ⊥
+
+-- an answer that refuses the file says the truth of it, and a rule that the file breaks is what it tells
+pub record Refusals {X : Type 0} (file : List ℕ) (words : ℕ) (answer : Result X JobFault) : Type 0 where
+  pub says : (refusal : JobFault) → answer ≡ Err refusal → refusal.stage ≡ StageReading → SaysOf file words refusal.fault
+  pub tells : (rule : Rule) (line : ℕ) → BrokenBy file words rule line → answer ≡ Err (at_reading (Broken rule line))
 
 -- ---- two texts of one mode
 

@@ -6,7 +6,7 @@ ghost use Rattle.search.specs.Searches.{made_of};
 ghost use Rattle.jobs.specs.Afterwards.{bits_after, decided_register, gates_after, register_after, search_made, table_made, tabulated};
 ghost use Rattle.jobs.specs.Lists.{decided_text, list_of, room_of};
 ghost use Rattle.jobs.specs.Suffices.{Suffices};
-ghost use Rattle.jobs.specs.Told.{TextsCompare, Told};
+ghost use Rattle.jobs.specs.Told.{Refusals, TextsCompare, Told};
 
 use crate::Workspace;
 use crate::printing::print_list;
@@ -71,6 +71,7 @@ pub fn list(
     ensures value { (result, text.new) ≡ list_of file.now mode (room_of workspace.entry) register.old text.old }
     ensures fits { IfOk result (λ size. size ≤ length text.new) }
     ensures told { IfOk result (λ size. Told file.now (length workspace.entry.gate_table.now) mode (take size text.new)) }
+    ensures refused { Refusals file.now (length workspace.entry.gate_table.now) result }
     ensures compared { TextsCompare }
     ensures suffices { Suffices }
     ensures gates { workspace.exit.0.now ≡ gates_after file.now (room_of workspace.entry) }

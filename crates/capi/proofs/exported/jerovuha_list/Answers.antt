@@ -5,8 +5,10 @@ use Rattle.cubes.specs.Cubes.{blank}
 use Rattle.jobs.specs.Lists.{Outcome, list_of}
 use Rattle.jobs.specs.Sizes.{enough, entry_count, blank_register}
 use Rattle.jobs.specs.Suffices.{Due}
-use Rattle.capi.specs.Answers.{DueNumber, answer_of}
+use Rattle.jobs.specs.Told.{Refusals}
+use Rattle.capi.specs.Answers.{DueNumber, Truthful, answer_of}
 use Rattle.capi.proofs.Due.{answer_due}
+use Rattle.capi.proofs.Truth.{truthful}
 use Rattle.capi.proofs.exported.jerovuha_list.Goals as goal
 
 pub returns-clause-due : goal.returns-clause-due
@@ -17,3 +19,9 @@ returns-clause-due c = λ long.
     let due = c.list.ensures.suffices.works c.args.file.now c.args.mode blank_register text (length-replicate entry_count blank) long in
     subst (λ a. DueNumber a.number) told
     (answer_due c.list.result (subst (λ (r : Result ℕ JobFault). IfErr r (λ refusal. Due refusal.fault)) (sym job) due))
+
+pub returns-clause-refused : goal.returns-clause-refused
+returns-clause-refused c =
+    let told : answer_of c.list.result ≡ c.match-list.answer = search rules in
+    let refusals : Refusals c.args.file.now enough.gate_table c.list.result = search rules in
+    subst (Truthful c.args.file.now) told (truthful c.args.file.now c.list.result refusals)
