@@ -11,35 +11,26 @@ use Rattle.aiger.specs.Grammar.{Numeral}
 use Rattle.aiger.specs.Malformed.{Byte, Digits, DigitFirst}
 use Rattle.aiger.proofs.NumberTexts.{judge_back, number_back}
 
--- a text begins so, and the same with any digits for its numbers
+-- texts that begin so, and the same with any digits for their numbers
 module _ (B L : List ℕ → Type 0) where
-  pub record Stuck (bs ts : List ℕ) (q : ℕ) : Type 0 where
+  -- why the file bs is wrong where here stands, after front
+  abbrev pub Why : List ℕ → List ℕ → List ℕ → TextFault → Type 0
+  Why bs front here TooLong = ⊥
+  Why bs front here (Misfit q) = (q + length here ≡ length bs) × ((xs : List ℕ) → L (front ++ xs) → slice_get xs 0 ≡ slice_get here 0 → ⊥)
+  Why bs front here (BadNumber q) =
+      (q + length here ≡ length bs) × ((xs : List ℕ) → L (front ++ xs) → DigitFirst xs) × (1 ≤ length (digits here)) × ((v : ℕ) → Numeral v (digits here) → ⊥)
+
+  -- the text ts of the file has this fault
+  pub record Faulty (bs ts : List ℕ) (e : TextFault) : Type 0 where
     pub front : List ℕ
     pub here : List ℕ
     pub split : ts ≡ front ++ here
-    pub at : q + length here ≡ length bs
     pub begins : (xs : List ℕ) × B (front ++ xs)
-    pub stuck : (xs : List ℕ) → L (front ++ xs) → slice_get xs 0 ≡ slice_get here 0 → ⊥
-
-  pub record NoNumber (bs ts : List ℕ) (q : ℕ) : Type 0 where
-    pub front : List ℕ
-    pub here : List ℕ
-    pub split : ts ≡ front ++ here
-    pub at : q + length here ≡ length bs
-    pub begins : (xs : List ℕ) × B (front ++ xs)
-    pub only : (xs : List ℕ) → L (front ++ xs) → DigitFirst xs
-    pub some : 1 ≤ length (digits here)
-    pub none : (v : ℕ) → Numeral v (digits here) → ⊥
-
-  -- the text ts of the file bs has this fault
-  abbrev pub Faulty : List ℕ → List ℕ → TextFault → Type 0
-  Faulty bs ts TooLong = ⊥
-  Faulty bs ts (Misfit q) = Stuck bs ts q
-  Faulty bs ts (BadNumber q) = NoNumber bs ts q
+    pub why : Why bs front here e
 
   -- at its first byte
-  pub stuck_here : (bs : List ℕ) (p : ℕ) → p ≤ length bs → (xs : List ℕ) × B xs → ((xs : List ℕ) → L xs → slice_get xs 0 ≡ slice_get (drop p bs) 0 → ⊥) → Stuck bs (drop p bs) p
-  stuck_here bs p h some none = record { front = []; here = drop p bs; split = refl; at = omega (arith, length-drop p bs); begins = some; stuck = none }
+  pub stuck_here : (bs : List ℕ) (p : ℕ) → p ≤ length bs → (xs : List ℕ) × B xs → ((xs : List ℕ) → L xs → slice_get xs 0 ≡ slice_get (drop p bs) 0 → ⊥) → Faulty bs (drop p bs) (Misfit p)
+  stuck_here bs p h some none = record { front = []; here = drop p bs; split = refl; begins = some; why = (omega (arith, length-drop p bs), none) }
 
 -- the first byte
 
@@ -64,25 +55,18 @@ module _ (B L B' L' : List ℕ → Type 0) (front ts : List ℕ) (more : (xs : L
   less_only f here xs e only l =
       ⊎_elim only (λ over. ⊎_elim (λ d. d) (λ d. absurd (over.1 (subst DigitFirst (sym e) d))) (digit_front f xs here over.0)) (less (f ++ xs) l)
 
+  why_on : (bs f here : List ℕ) (e : TextFault) → ts ≡ f ++ here → Why B' L' bs f here e → Why B L bs (front ++ f) here e
+  why_on bs f here TooLong split w = w
+  why_on bs f here (Misfit q) split (at, stuck) = (at, (λ xs l s. stuck xs (less_stuck f here xs split s (subst L (append_assoc front f xs) l)) s))
+  why_on bs f here (BadNumber q) split (at, only, some, none) = (at, (λ xs l. less_only f here xs split (only xs) (subst L (append_assoc front f xs) l)), some, none)
+
   pub shift : (bs : List ℕ) (e : TextFault) → Faulty B' L' bs ts e → Faulty B L bs (front ++ ts) e
-  shift bs TooLong f = f
-  shift bs (Misfit q) f = record {
+  shift bs e f = record {
     front = front ++ f.front;
     here = f.here;
     split = ap (λ (x : List ℕ). front ++ x) f.split ∙ sym (append_assoc front f.front f.here);
-    at = f.at;
     begins = (f.begins.0, subst B (sym (append_assoc front f.front f.begins.0)) (more (f.front ++ f.begins.0) f.begins.1));
-    stuck = λ xs l s. f.stuck xs (less_stuck f.front f.here xs f.split s (subst L (append_assoc front f.front xs) l)) s;
-  }
-  shift bs (BadNumber q) f = record {
-    front = front ++ f.front;
-    here = f.here;
-    split = ap (λ (x : List ℕ). front ++ x) f.split ∙ sym (append_assoc front f.front f.here);
-    at = f.at;
-    begins = (f.begins.0, subst B (sym (append_assoc front f.front f.begins.0)) (more (f.front ++ f.begins.0) f.begins.1));
-    only = λ xs l. less_only f.front f.here xs f.split (f.only xs) (subst L (append_assoc front f.front xs) l);
-    some = f.some;
-    none = f.none;
+    why = why_on bs f.front f.here e f.split f.why;
   }
 
 -- lists
@@ -101,7 +85,7 @@ splits (c ∷ a) x (d ∷ b) y e =
 -- a byte
 
 module _ (b : ℕ) (B L : List ℕ → Type 0) where
-  pub byte_stuck : (bs : List ℕ) (p : ℕ) → p ≤ length bs → (xs : List ℕ) × B xs → (slice_get (drop p bs) 0 ≡ Some b → ⊥) → Stuck (Byte b B) (Byte b L) bs (drop p bs) p
+  pub byte_stuck : (bs : List ℕ) (p : ℕ) → p ≤ length bs → (xs : List ℕ) × B xs → (slice_get (drop p bs) 0 ≡ Some b → ⊥) → Faulty (Byte b B) (Byte b L) bs (drop p bs) (Misfit p)
   byte_stuck bs p h some other =
       stuck_here (Byte b B) (Byte b L) bs p h (b ∷ some.0, (some.0, refl, some.1)) (λ xs l s. other (sym s ∙ ap (λ (x : List ℕ). slice_get x 0) l.1))
 
@@ -179,11 +163,13 @@ module _ (B L : List ℕ → Type 0) where
         front = [];
         here = here;
         split = refl;
-        at = omega (arith, length-drop p bs);
         begins = begins;
-        only = λ xs l. digits_first L xs l;
-        some = let none : length (digits here) ≡ 0 → ⊥ = eqb-false _ _ f in omega arith;
-        none = λ v n. false≢true (sym g ∙ numeral_fair v (digits here) n);
+        why = (
+          omega (arith, length-drop p bs),
+          (λ xs l. digits_first L xs l),
+          (let none : length (digits here) ≡ 0 → ⊥ = eqb-false _ _ f in omega arith),
+          (λ v n. false≢true (sym g ∙ numeral_fair v (digits here) n)),
+        );
       })))
 
   -- digits that go on behind a run of digits

@@ -43,11 +43,11 @@ use Rattle.aiger.proofs.GateTexts.{gate_back, fits_back, gates_back}
 
 -- of a line that is due
 malformed : (file : List ℕ) (words : ℕ) (kind : Kind) (here : List ℕ) (e : TextFault) → Due file words kind here → Faulty (Begins kind) (Loose kind) file here e → Malformed file words e
-malformed file words kind here TooLong due f = absurd f
+malformed file words kind here TooLong due f = absurd f.why
 malformed file words kind here (Misfit q) due f =
-    record { kind = kind; front = f.front; here = f.here; due = subst (Due file words kind) f.split due; at = f.at; begins = f.begins; stuck = f.stuck }
+    record { kind = kind; front = f.front; here = f.here; due = subst (Due file words kind) f.split due; at = f.why.0; begins = f.begins; stuck = f.why.1 }
 malformed file words kind here (BadNumber q) due f =
-    record { kind = kind; front = f.front; here = f.here; due = subst (Due file words kind) f.split due; at = f.at; begins = f.begins; only = f.only; some = f.some; none = f.none }
+    record { kind = kind; front = f.front; here = f.here; due = subst (Due file words kind) f.split due; at = f.why.0; begins = f.begins; only = f.why.1; some = f.why.2; none = f.why.3 }
 
 -- faults that are carried up
 
