@@ -19,17 +19,17 @@ use Rattle.aiger.specs.Lines.{keep, header_fits, inputs_at, output_at, gate_fits
 use Rattle.aiger.specs.Symbols.{slots, first, refused_at}
 use Rattle.aiger.specs.declared.states.SymbolFault.{SymbolFault}
 use Rattle.aiger.specs.declared.states.SymbolFault.TheVariants.{NoSlot}
-use Rattle.aiger.specs.Reads.{Answer, lines_of, into_of, settled, read_of, rest_of, body_of}
+use Rattle.aiger.specs.Reads.{Answer, lines_of, into_of, rest_of, body_of}
 use Rattle.aiger.specs.Grammar.{NumberLine, InputLines, GateLines}
 use Rattle.aiger.specs.Refused.{Keeps, HeaderBroken, UpToInputs, InputBroken, OutputBroken, UpToGates, GateBreaks, GateBroken, SymbolBroken, BrokenBy}
-use Rattle.aiger.specs.Told.{Told}
 use Rattle.aiger.specs.declared.header.Header.{Header}
 use Rattle.aiger.proofs.SymbolSteps.{ran}
 use Rattle.aiger.proofs.HeaderTexts.{header_read_lem, limits_read}
 use Rattle.aiger.proofs.NumberTexts.{number_line_read}
 use Rattle.aiger.proofs.LiteralTexts.{inputs_read, output_read}
 use Rattle.aiger.proofs.GateTexts.{gate_of, gate_read, fits_read, filled, gates_read}
-use Rattle.aiger.proofs.RefusedRules.{range_false, range_true, equal_false, equal_true, less_true, lines_cut, says}
+use Rattle.aiger.proofs.LineFaults.{header_within, inputs_within, output_within}
+use Rattle.aiger.proofs.RefusedRules.{range_false, range_true, equal_false, equal_true, less_true, lines_cut}
 use Rattle.aiger.proofs.Apart.{all_in, apart_free, breaks_taken}
 use Rattle.aiger.proofs.LineCounts.{at_place}
 use Rattle.aiger.proofs.SymbolTexts.{Refused, Lines}
@@ -132,18 +132,18 @@ gates_wrong (f ∷ gs) (suc n) i k p own g rule bs t here rest among (mid, (l, r
 -- the whole file
 
 -- a part that went well, and one that did not
-kept : {X Y E F : Type 0} (f : E → F) (t : List ℕ) (r : Result X E) (k : X → List ℕ × Result Y F) (x : X) (a : Result Y F) → r ≡ Ok x → (k x).1 ≡ a → (keep f t r k).1 ≡ a
+pub kept : {X Y E F : Type 0} (f : E → F) (t : List ℕ) (r : Result X E) (k : X → List ℕ × Result Y F) (x : X) (a : Result Y F) → r ≡ Ok x → (k x).1 ≡ a → (keep f t r k).1 ≡ a
 kept f t r k x a e h = ap (λ r. (keep f t r k).1) e ∙ h
 
-lost : {X Y E F : Type 0} (f : E → F) (t : List ℕ) (r : Result X E) (k : X → List ℕ × Result Y F) (d : E) → r ≡ Err d → (keep f t r k).1 ≡ Err (f d)
+pub lost : {X Y E F : Type 0} (f : E → F) (t : List ℕ) (r : Result X E) (k : X → List ℕ × Result Y F) (d : E) → r ≡ Err d → (keep f t r k).1 ≡ Err (f d)
 lost f t r k d e = ap (λ r. (keep f t r k).1) e
 
 module _ (bs : List ℕ) (w : ℕ) where
-  abbrev table : List ℕ
+  abbrev pub table : List ℕ
   table = replicate w 0
 
   -- the answer of the lines is that of the file
-  short : (a : Result Reading CircuitFault) → length bs ≤ max_file_bytes → (lines_of bs table).1 ≡ a → (into_of bs table).1 ≡ a
+  pub short : (a : Result Reading CircuitFault) → length bs ≤ max_file_bytes → (lines_of bs table).1 ≡ a → (into_of bs table).1 ≡ a
   short a few h = ap (λ (x : Answer). x.1) (cond-false _ _ _ (le-ltb max_file_bytes (length bs) few)) ∙ h
 
   header_told : (rule : Rule) (line : ℕ) → HeaderBroken bs w rule line → (into_of bs table).1 ≡ Err (Broken rule line)
@@ -155,43 +155,43 @@ module _ (bs : List ℕ) (w : ℕ) where
       (lost (λ e. e) table _ _ _ (ap (header_fits h) (length-replicate w 0) ∙ header_wrong h w rule b.breaks b.others ∙ (λ i. Err (Broken rule (sym b.line_is i))))))
 
   -- up to the inputs, from the answer of the lines after the header
-  after_header : (h : Header) (k : ℕ) (here : List ℕ) (u : UpToInputs bs w h k here) (a : Result Reading CircuitFault)
-      → ((p : ℕ) → drop p bs ≡ u.after_header → (body_of bs table h p).1 ≡ a) → (into_of bs table).1 ≡ a
+  pub after_header : (h : Header) (k : ℕ) (here : List ℕ) (u : UpToInputs bs w h k here) (a : Result Reading CircuitFault)
+      → ((p : ℕ) → p ≤ length bs → drop p bs ≡ u.after_header → (body_of bs table h p).1 ≡ a) → (into_of bs table).1 ≡ a
   after_header h k here u a f =
       let eh = header_read_lem bs h u.after_header u.header in
       short a u.few
       (kept Text table _ _ (h, eh.0) a (ap (located_in bs) eh.1)
-      (kept (λ e. e) table _ _ tt a (ap (header_fits h) (length-replicate w 0) ∙ limits_read h w u.limits) (f eh.0 eh.2)))
+      (kept (λ e. e) table _ _ tt a (ap (header_fits h) (length-replicate w 0) ∙ limits_read h w u.limits) (f eh.0 (header_within bs (h, eh.0) eh.1) eh.2)))
 
   input_told : (line : ℕ) → InputBroken bs w line → (into_of bs table).1 ≡ Err (Broken InputLine line)
   input_told line b =
       let h = b.h in
       let line_is : 1 + b.k + 1 ≡ line = omega (arith, b.line_is) in
-      after_header h b.k b.here b.before _ (λ p e. lost (λ e. e) table (inputs_at bs p 1 h.inputs) _ _
+      after_header h b.k b.here b.before _ (λ p low e. lost (λ e. e) table (inputs_at bs p 1 h.inputs) _ _
       (inputs_wrong b.k h.inputs 1 p b.v bs b.here b.rest b.among (subst (λ (l : List ℕ). InputLines 1 b.k l b.here) (sym e) b.before.inputs) b.number (λ s. b.breaks (omega (arith, s)))
       ∙ (λ i. Err (Broken InputLine (line_is i)))))
 
   -- up to the output
-  after_inputs : (h : Header) (here : List ℕ) (u : UpToInputs bs w h h.inputs here) (a : Result Reading CircuitFault)
-      → ((q : ℕ) → drop q bs ≡ here → (keep (λ e. e) table (output_at bs q h.highest h.inputs) (λ o. rest_of bs h o.0 (gates_at bs h.inputs 0 h.gates o.1 table))).1 ≡ a) → (into_of bs table).1 ≡ a
+  pub after_inputs : (h : Header) (here : List ℕ) (u : UpToInputs bs w h h.inputs here) (a : Result Reading CircuitFault)
+      → ((q : ℕ) → q ≤ length bs → drop q bs ≡ here → (keep (λ e. e) table (output_at bs q h.highest h.inputs) (λ o. rest_of bs h o.0 (gates_at bs h.inputs 0 h.gates o.1 table))).1 ≡ a) → (into_of bs table).1 ≡ a
   after_inputs h here u a f =
-      after_header h h.inputs here u a (λ p e.
+      after_header h h.inputs here u a (λ p low e.
       let ei = inputs_read h.inputs 1 p bs here (subst (λ (l : List ℕ). InputLines 1 h.inputs l here) (sym e) u.inputs) in
-      kept (λ e. e) table _ _ ei.0 a ei.1 (f ei.0 ei.2))
+      kept (λ e. e) table _ _ ei.0 a ei.1 (f ei.0 (inputs_within h.inputs 1 p ei.0 bs low ei.1) ei.2))
 
   output_told : (line : ℕ) → OutputBroken bs w line → (into_of bs table).1 ≡ Err (Broken OutputLiteral line)
   output_told line b =
       let h = b.h in
-      after_inputs h b.here b.before _ (λ q e. lost (λ e. e) table (output_at bs q h.highest h.inputs) _ _
+      after_inputs h b.here b.before _ (λ q low e. lost (λ e. e) table (output_at bs q h.highest h.inputs) _ _
       (output_wrong q h.highest h.inputs b.v bs b.rest (subst (λ (l : List ℕ). NumberLine (b.v ∷ []) l b.rest) (sym e) b.number) b.breaks ∙ (λ i. Err (Broken OutputLiteral (sym b.line_is i)))))
 
   -- up to the gates
-  after_output : (h : Header) (gs : List (ℕ × ℕ)) (here : List ℕ) (u : UpToGates bs w h gs here) (a : Result Reading CircuitFault)
-      → ((p : ℕ) → drop p bs ≡ u.after_output → (rest_of bs h u.output (gates_at bs h.inputs 0 h.gates p table)).1 ≡ a) → (into_of bs table).1 ≡ a
+  pub after_output : (h : Header) (gs : List (ℕ × ℕ)) (here : List ℕ) (u : UpToGates bs w h gs here) (a : Result Reading CircuitFault)
+      → ((p : ℕ) → p ≤ length bs → drop p bs ≡ u.after_output → (rest_of bs h u.output (gates_at bs h.inputs 0 h.gates p table)).1 ≡ a) → (into_of bs table).1 ≡ a
   after_output h gs here u a f =
-      after_inputs h u.after_inputs u.inputs a (λ q e.
+      after_inputs h u.after_inputs u.inputs a (λ q low e.
       let eo = output_read bs q u.output h.highest h.inputs u.after_output u.output_below (subst (λ (l : List ℕ). NumberLine (u.output ∷ []) l u.after_output) (sym e) u.output_line) in
-      kept (λ e. e) table _ _ (u.output, eo.0) a eo.1 (f eo.0 eo.2))
+      kept (λ e. e) table _ _ (u.output, eo.0) a eo.1 (f eo.0 (output_within bs q h.highest h.inputs (u.output, eo.0) eo.1) eo.2))
 
   gate_told : (rule : Rule) (line : ℕ) → GateBroken bs w rule line → (into_of bs table).1 ≡ Err (Broken rule line)
   gate_told rule line b =
@@ -199,18 +199,26 @@ module _ (bs : List ℕ) (w : ℕ) where
       let u = b.before in
       let due : 2 * (h.inputs + 1 + length b.gs) ≡ 2 * (h.inputs + 1 + 0 + length b.gs) = omega arith in
       let line_is : h.inputs + 3 + 0 + length b.gs ≡ line = omega (arith, b.line_is) in
-      after_output h b.gs b.here u _ (λ p e.
+      after_output h b.gs b.here u _ (λ p low e.
       let g = gates_at bs h.inputs 0 h.gates p table in
       lost (λ e. e) g.0 g.1 _ _
       (gates_wrong b.gs h.gates h.inputs 0 p b.own b.g rule bs table b.here b.rest b.among (subst (λ (l : List ℕ). GateLines h.inputs 0 b.gs l b.here) (sym e) u.gates) b.numbers
       (subst (λ (d : ℕ). GateBreaks d b.own b.g rule) due b.breaks) ∙ (λ i. Err (Broken rule (line_is i)))))
 
-  -- the symbol lines refuse a position
-  symbol_lost : (h : Header) (output line q p : ℕ) (t : List ℕ) (g : List ℕ × Result ℕ CircuitFault) → line_of bs q ≡ line → g ≡ (t, Ok p)
-      → ran (length bs) bs (first p h.inputs) ≡ Err (NoSlot q) → (rest_of bs h output g).1 ≡ Err (Broken SymbolPosition line)
-  symbol_lost h output line q p t g line_is eg e =
+  -- the symbol lines are refused
+  symbol_lost : (h : Header) (output p : ℕ) (t : List ℕ) (g : List ℕ × Result ℕ CircuitFault) (e : SymbolFault) → g ≡ (t, Ok p) → ran (length bs) bs (first p h.inputs) ≡ Err e → (rest_of bs h output g).1 ≡ Err (refused_at bs e)
+  symbol_lost h output p t g e eg r =
       let after : Result (Unit {0}) SymbolFault → Result Reading CircuitFault = λ r. next (result_map_both (λ u. u) (refused_at bs) r) (λ _. Ok (record { inputs = h.inputs; gates = h.gates; output = output })) in
-      ap (λ (x : Gates). (rest_of bs h output x).1) eg ∙ ap after e ∙ (λ i. Err (Broken SymbolPosition (line_is i)))
+      ap (λ (x : Gates). (rest_of bs h output x).1) eg ∙ ap after r
+
+  -- behind the lines of all gates
+  pub after_gates : (h : Header) (gs : List (ℕ × ℕ)) (here : List ℕ) (u : UpToGates bs w h gs here) (e : SymbolFault) (a : Result Reading CircuitFault) → length gs ≡ h.gates → Err (refused_at bs e) ≡ a
+      → ((p : ℕ) → drop p bs ≡ here → ran (length bs) bs (first p h.inputs) ≡ Err e) → (into_of bs table).1 ≡ a
+  after_gates h gs here u e a count same f =
+      after_output h gs here u a (λ p low at.
+      let g = gates_read gs h.inputs 0 p bs table here (subst (λ (l : List ℕ). GateLines h.inputs 0 gs l here) (sym at) u.gates) in
+      let gates : gates_at bs h.inputs 0 h.gates p table ≡ (filled table 0 gs, Ok g.0) = ap (λ (n : ℕ). gates_at bs h.inputs 0 n p table) (sym count) ∙ g.1 in
+      symbol_lost h u.output g.0 _ _ e gates (f g.0 g.2) ∙ same)
 
   symbol_told : (line : ℕ) → SymbolBroken bs w line → (into_of bs table).1 ≡ Err (Broken SymbolPosition line)
   symbol_told line b =
@@ -230,12 +238,10 @@ module _ (bs : List ℕ) (w : ℕ) where
         free = apart_free h.inputs b.symbols limits.inputs v b.apart;
         last = inr (inl (record { s = b.s; rest = b.rest; form = b.form; taken = (breaks_taken h.inputs b.s b.symbols limits.inputs v b.breaks, end) }));
       } in
-      after_output h b.gs b.after_gates u _ (λ p e.
-      let g = gates_read b.gs h.inputs 0 p bs table b.after_gates (subst (λ (l : List ℕ). GateLines h.inputs 0 b.gs l b.after_gates) (sym e) u.gates) in
-      let gates : gates_at bs h.inputs 0 h.gates p table ≡ (filled table 0 b.gs, Ok g.0) = ap (λ (n : ℕ). gates_at bs h.inputs 0 n p table) (sym b.count) ∙ g.1 in
-      symbol_lost h u.output line q g.0 _ _ line_is gates (symbols_read bs (Refused q) (λ s ts a. a) g.0 h.inputs (subst (Lines bs (Refused q) h.inputs (replicate slots false)) (sym g.2) wrong)))
+      after_gates h b.gs b.after_gates u (NoSlot q) _ b.count (λ i. Err (Broken SymbolPosition (line_is i))) (λ p e.
+      symbols_read bs (Refused q) (λ f p n z h a. absurd a) p h.inputs (subst (Lines bs (Refused q) h.inputs (replicate slots false)) (sym e) wrong))
 
-  told : (rule : Rule) (line : ℕ) → BrokenBy bs w rule line → (into_of bs table).1 ≡ Err (Broken rule line)
+  pub told : (rule : Rule) (line : ℕ) → BrokenBy bs w rule line → (into_of bs table).1 ≡ Err (Broken rule line)
   told InputCount line b = header_told InputCount line b
   told LatchCount line b = header_told LatchCount line b
   told OutputCount line b = header_told OutputCount line b
@@ -247,11 +253,3 @@ module _ (bs : List ℕ) (w : ℕ) where
   told GateLiteral line b = gate_told GateLiteral line b
   told Operand line b = gate_told Operand line b
   told SymbolPosition line b = symbol_told line b
-
-pub rules_told : (bs : List ℕ) (n : ℕ) (z : List ℕ) (r : Result Reading CircuitFault) → ◌≡◌ {A = Answer} (z, r) (read_of bs n) → Told bs n r
-rules_told bs n z r e =
-    let i = into_of bs (replicate n 0) in
-    record {
-      says = says bs n z r e;
-      tells = λ rule line b. ap (λ (a : Answer). a.1) e ∙ ap (λ (x : Result Reading CircuitFault). (settled n i.0 x).1) (told bs n rule line b);
-    }

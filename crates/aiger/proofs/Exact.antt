@@ -41,7 +41,7 @@ into_read bs n r gs w =
       free = apart_free h.inputs w.symbols w.limits.inputs (all_in h.inputs w.symbols w.after_gates w.rest w.lines) w.apart;
       last = inl (tt, w.ending);
     } in
-    let symbols : symbols_at bs eg.0 h.inputs ≡ Ok tt = ap (result_map_both (λ u. u) (refused_at bs)) (symbols_read bs Accepted (λ s ts a. a) eg.0 h.inputs lines) in
+    let symbols : symbols_at bs eg.0 h.inputs ≡ Ok tt = ap (result_map_both (λ u. u) (refused_at bs)) (symbols_read bs Accepted (λ f p n z h a. absurd a) eg.0 h.inputs lines) in
     let gates : ◌≡◌ {A = List ℕ × Result ℕ CircuitFault} (gates_at bs h.inputs 0 h.gates eo.0 t) (gate_table n gs, Ok eg.0) =
     ap (λ (k : ℕ). gates_at bs h.inputs 0 k eo.0 t) (sym w.count) ∙ eg.1 ∙ (λ j. (table_is gs n room j, Ok eg.0)) in
     till_gates bs t h eh.0 ei.0 (r.output, eo.0) tt w.few

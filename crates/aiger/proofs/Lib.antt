@@ -3,11 +3,14 @@ pub mod NumberTexts
 pub mod Pieces
 pub mod HeaderTexts
 pub mod LineFaults
+pub mod PiecesTold
+pub mod LinesTold
 pub mod LiteralTexts
 pub mod GateTexts
 pub mod SymbolForms
 pub mod SymbolSteps
 pub mod SymbolTexts
+pub mod SymbolsLost
 pub mod SymbolsBack
 pub mod SymbolsRead
 pub mod Apart
@@ -16,3 +19,4 @@ pub mod Exact
 pub mod LineCounts
 pub mod RefusedRules
 pub mod BrokenTold
+pub mod MalformedTold

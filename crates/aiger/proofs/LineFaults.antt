@@ -30,7 +30,7 @@ next_err (Err d) k e h = inl (same d e h)
 
 -- the places stay within the file
 
-expect_within : (bs : List ℕ) (p b q : ℕ) → expect_at bs p b ≡ Ok q → q ≤ length bs
+pub expect_within : (bs : List ℕ) (p b q : ℕ) → expect_at bs p b ≡ Ok q → q ≤ length bs
 expect_within bs p b q e =
     let t = in_test (ltb p (length bs) && eqb (get_or bs p 0) b) _ _ _ e in
     let low = ltb-true _ _ (and_parts (ltb p (length bs)) (eqb (get_or bs p 0) b) t.0).0 in
@@ -86,25 +86,25 @@ number_within bs p v h e =
     let j = judge_back p v ds (all_digits (drop p bs)) e in
     omega (arith, j.1, digits_few (drop p bs), length-drop p bs)
 
+pub ok_not_err : (x : ℕ) (e : TextFault) → ◌≡◌ {A = Result ℕ TextFault} (Ok x) (Err e) → ⊥
+ok_not_err x e h = cc
+
+pub first_split : (ts : List ℕ) (b : ℕ) → slice_get ts 0 ≡ Some b → (rest : List ℕ) × (ts ≡ b ∷ rest)
+first_split [] b s = cc
+first_split (x ∷ ts) b s = (ts, cc)
+
 -- a byte that is due
 
 module _ (b : ℕ) (B L : List ℕ → Type 0) where
   expect_err : (bs : List ℕ) (p : ℕ) (e : TextFault) → p ≤ length bs → (xs : List ℕ) × B xs → expect_at bs p b ≡ Err e → Faulty (Byte b B) (Byte b L) bs (drop p bs) e
   expect_err bs p e h some r =
-      let other : slice_get (drop p bs) 0 ≡ Some b → ⊥ = λ s. let f = first_split (drop p bs) s in let ok = expect_read bs p b f.0 f.1 in differs (p + 1) e (sym ok.0 ∙ r) in
+      let other : slice_get (drop p bs) 0 ≡ Some b → ⊥ = λ s. let f = first_split (drop p bs) b s in let ok = expect_read bs p b f.0 f.1 in ok_not_err (p + 1) e (sym ok.0 ∙ r) in
       cond_both (ltb p (length bs) && eqb (get_or bs p 0) b) _ _ (λ (a : Result ℕ TextFault). a ≡ Err e → Faulty (Byte b B) (Byte b L) bs (drop p bs) e)
-      (λ t a. absurd (differs (p + 1) e a))
+      (λ t a. absurd (ok_not_err (p + 1) e a))
       (λ f a. subst (Faulty (Byte b B) (Byte b L) bs (drop p bs)) (same (Misfit p) e a) (byte_stuck b B L bs p h some other)) r
     where
-      differs : (x : ℕ) (e : TextFault) → ◌≡◌ {A = Result ℕ TextFault} (Ok x) (Err e) → ⊥
-      differs x e h = cc
-
       same : (d e : TextFault) → ◌≡◌ {A = Result ℕ TextFault} (Err d) (Err e) → d ≡ e
       same d e h = cc
-
-      first_split : (ts : List ℕ) → slice_get ts 0 ≡ Some b → (rest : List ℕ) × (ts ≡ b ∷ rest)
-      first_split [] s = cc
-      first_split (x ∷ ts) s = (ts, cc)
 
   expect_on : (bs : List ℕ) (p q : ℕ) (e : TextFault) → expect_at bs p b ≡ Ok q → Faulty B L bs (drop q bs) e → Faulty (Byte b B) (Byte b L) bs (drop p bs) e
   expect_on bs p q e r f = subst (λ (ts : List ℕ). Faulty (Byte b B) (Byte b L) bs ts e) (sym (expect_back bs p b q r)) (byte_on b B L bs (drop q bs) e f)
@@ -137,11 +137,11 @@ module _ (b : ℕ) (B L : List ℕ → Type 0) where
 
 -- a line of numbers
 
-abbrev Plain : ℕ → List ℕ → Type 0
+abbrev pub Plain : ℕ → List ℕ → Type 0
 Plain zero = Number (Byte 10 Anything)
 Plain (suc n) = Number (Byte 32 (Plain n))
 
-plain_some : (n : ℕ) → (xs : List ℕ) × Plain n xs
+pub plain_some : (n : ℕ) → (xs : List ℕ) × Plain n xs
 plain_some zero = (48 ∷ 10 ∷ [], (0, 48 ∷ [], 10 ∷ [], nought, refl, ([], refl, tt)))
 plain_some (suc n) = let more = plain_some n in (48 ∷ 32 ∷ more.0, (0, 48 ∷ [], 32 ∷ more.0, nought, refl, (more.0, refl, more.1)))
 
@@ -164,7 +164,7 @@ plain_err (suc n) bs p e h r =
     (next_err (item_at bs p 32) _ e r)
 
 -- what is malformed in one way of beginning is so in a wider one
-widen : (B L C : List ℕ → Type 0) → ((xs : List ℕ) → B xs → C xs) → (bs ts : List ℕ) (e : TextFault) → Faulty B L bs ts e → Faulty C L bs ts e
+pub widen : (B L C : List ℕ → Type 0) → ((xs : List ℕ) → B xs → C xs) → (bs ts : List ℕ) (e : TextFault) → Faulty B L bs ts e → Faulty C L bs ts e
 widen B L C wider bs ts e f = shift C L B L [] ts wider (λ xs l. inl l) bs e f
 
 pub numbers_err : (n : ℕ) (bs : List ℕ) (p : ℕ) (e : TextFault) → p ≤ length bs → numbers_at bs p n ≡ Err e → Faulty (Begins (numbers n)) (Loose (numbers n)) bs (drop p bs) e
@@ -178,7 +178,7 @@ gate_err bs p e h r = ⊎_elim (numbers_err 2 bs p e h) (λ v. cc) (next_err (nu
 
 -- the header
 
-abbrev Spelt : List ℕ → Type 0
+abbrev pub Spelt : List ℕ → Type 0
 Spelt = Byte 97 (Byte 97 (Byte 103 (Byte 32 (Plain 4))))
 
 spelt_begins : (xs : List ℕ) → Spelt xs → Begins header xs
@@ -192,7 +192,7 @@ spelt_begins xs (a, ea, (b, eb, (c, ec, (d, ed, m)))) =
     ))
     l.0 l.2 l.3
 
-byte_some : (b : ℕ) (B : List ℕ → Type 0) → (xs : List ℕ) × B xs → (xs : List ℕ) × Byte b B xs
+pub byte_some : (b : ℕ) (B : List ℕ → Type 0) → (xs : List ℕ) × B xs → (xs : List ℕ) × Byte b B xs
 byte_some b B some = (b ∷ some.0, (some.0, refl, some.1))
 
 word_err : (bs : List ℕ) (e : TextFault) → word_at bs ≡ Err e → Faulty Spelt (Loose header) bs bs e

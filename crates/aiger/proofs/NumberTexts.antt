@@ -34,7 +34,7 @@ pub number_read : (bs : List ℕ) (p v x : ℕ) (ds rest : List ℕ) → Numeral
 number_read bs p v x ds rest n nd e =
     (p + length ds, ap (λ (l : List ℕ). judged p (digits l)) e ∙ ap (judged p) (digits_run ds x rest n.digit nd) ∙ judge_numeral p v ds n, rest_at p bs ds (x ∷ rest) e)
 
-digits_front : (bs : List ℕ) → bs ≡ digits bs ++ drop (length (digits bs)) bs
+pub digits_front : (bs : List ℕ) → bs ≡ digits bs ++ drop (length (digits bs)) bs
 digits_front [] = refl
 digits_front (b ∷ bs) =
     cond_both (is_digit b) (b ∷ digits bs) [] (λ (l : List ℕ). b ∷ bs ≡ l ++ drop (length l) (b ∷ bs)) (λ _. ap (λ (l : List ℕ). b ∷ l) (digits_front bs)) (λ _. refl)

@@ -32,13 +32,17 @@ module _ (B L : List ℕ → Type 0) where
   pub stuck_here : (bs : List ℕ) (p : ℕ) → p ≤ length bs → (xs : List ℕ) × B xs → ((xs : List ℕ) → L xs → slice_get xs 0 ≡ slice_get (drop p bs) 0 → ⊥) → Faulty bs (drop p bs) (Misfit p)
   stuck_here bs p h some none = record { front = []; here = drop p bs; split = refl; begins = some; why = (omega (arith, length-drop p bs), none) }
 
+-- a text of the form that begins with no digit, or is empty
+abbrev pub Undigited : (List ℕ → Type 0) → Type 0
+Undigited L = (xs : List ℕ) × L xs × (DigitFirst xs → ⊥)
+
 -- the first byte
 
 first_same : (f xs ys : List ℕ) → slice_get xs 0 ≡ slice_get ys 0 → slice_get (f ++ xs) 0 ≡ slice_get (f ++ ys) 0
 first_same [] xs ys e = e
 first_same (b ∷ f) xs ys e = refl
 
-digit_same : (xs ys : List ℕ) → slice_get xs 0 ≡ slice_get ys 0 → DigitFirst xs → DigitFirst ys
+pub digit_same : (xs ys : List ℕ) → slice_get xs 0 ≡ slice_get ys 0 → DigitFirst xs → DigitFirst ys
 digit_same xs ys e (d, at, is) = (d, sym e ∙ at, is)
 
 digit_front : (f xs ys : List ℕ) → DigitFirst (f ++ xs) → DigitFirst xs ⊎ DigitFirst (f ++ ys)
@@ -75,7 +79,7 @@ pub cons_same : (x y : ℕ) (xs ys : List ℕ) → x ∷ xs ≡ y ∷ ys → (x 
 cons_same x y xs ys e = (ap (λ (l : List ℕ). get_or l 0 0) e, ap (drop 1) e)
 
 -- two splits of one text
-splits : (a x b y : List ℕ) → a ++ x ≡ b ++ y → ((e : List ℕ) × (b ≡ a ++ e) × (x ≡ e ++ y)) ⊎ ((d : ℕ) × (e : List ℕ) × (a ≡ b ++ d ∷ e) × (y ≡ d ∷ (e ++ x)))
+pub splits : (a x b y : List ℕ) → a ++ x ≡ b ++ y → ((e : List ℕ) × (b ≡ a ++ e) × (x ≡ e ++ y)) ⊎ ((d : ℕ) × (e : List ℕ) × (a ≡ b ++ d ∷ e) × (y ≡ d ∷ (e ++ x)))
 splits [] x b y e = inl (b, refl, e)
 splits (d ∷ a) x [] y e = inr (d, a, refl, sym e)
 splits (c ∷ a) x (d ∷ b) y e =
@@ -101,18 +105,21 @@ Number More ts = (v : ℕ) × (ds : List ℕ) × (rest : List ℕ) × Numeral v 
 digit_is : (b : ℕ) → 48 ≤ b → b ≤ 57 → is_digit b ≡ true
 digit_is b l h = and_from _ _ (le-leb 48 b l) (le-leb b 57 h)
 
-some_same : (x y : ℕ) → ◌≡◌ {A = Option ℕ} (Some x) (Some y) → x ≡ y
+pub some_same : (x y : ℕ) → ◌≡◌ {A = Option ℕ} (Some x) (Some y) → x ≡ y
 some_same x y e = cc
 
-none_some : (d : ℕ) → ◌≡◌ {A = Option ℕ} None (Some d) → ⊥
+pub none_some : (d : ℕ) → ◌≡◌ {A = Option ℕ} None (Some d) → ⊥
 none_some d e = cc
+
+pub not_digit : (b : ℕ) (xs : List ℕ) → is_digit b ≡ false → DigitFirst (b ∷ xs) → ⊥
+not_digit b xs n d = false≢true (sym n ∙ ap is_digit (some_same b d.0 d.1) ∙ d.2)
 
 -- digits stand first
 pub digits_first : (M : List ℕ → Type 0) (xs : List ℕ) → Digits M xs → DigitFirst xs
 digits_first M xs ([], rest, some, all, e, m) = absurd (omega arith)
 digits_first M xs (d ∷ ds, rest, some, all, e, m) = (d, ap (λ (x : List ℕ). slice_get x 0) e, digit_is d (all 0 (omega arith)).0 (all 0 (omega arith)).1)
 
-run_some : (ts : List ℕ) → DigitFirst ts → 1 ≤ length (digits ts)
+pub run_some : (ts : List ℕ) → DigitFirst ts → 1 ≤ length (digits ts)
 run_some [] (d, at, is) = absurd (none_some d at)
 run_some (b ∷ ts) (d, at, is) =
     let same = some_same b d at in
@@ -120,11 +127,11 @@ run_some (b ∷ ts) (d, at, is) =
     omega (arith, ap length run)
 
 -- no digit stands behind the run
-run_end : (ts : List ℕ) → DigitFirst (drop (length (digits ts)) ts) → ⊥
+pub run_end : (ts : List ℕ) → DigitFirst (drop (length (digits ts)) ts) → ⊥
 run_end [] h = absurd (none_some h.0 h.1)
 run_end (b ∷ ts) h =
     cond_both (is_digit b) (b ∷ digits ts) [] (λ (l : List ℕ). DigitFirst (drop (length l) (b ∷ ts)) → ⊥) (λ _. run_end ts)
-    (λ e d. false≢true (sym e ∙ ap is_digit (some_same b d.0 d.1) ∙ d.2)) h
+    (λ e d. not_digit b ts e d) h
 
 number_end : (bs : List ℕ) (p : ℕ) (v : ℕ × ℕ) → number_at bs p ≡ Ok v → DigitFirst (drop v.1 bs) → ⊥
 number_end bs p v e d =
@@ -142,7 +149,7 @@ nought = record { some = omega arith; few = omega arith; digit = digit; plain = 
 numeral_fair : (v : ℕ) (ds : List ℕ) → Numeral v ds → fair (get_or ds 0 0) (length ds) ≡ true
 numeral_fair v ds n = grind (arith, nat_tests)
 
-digit_at : (ds : List ℕ) (d : ℕ) (es : List ℕ) → AllDigits (ds ++ d ∷ es) → is_digit d ≡ true
+pub digit_at : (ds : List ℕ) (d : ℕ) (es : List ℕ) → AllDigits (ds ++ d ∷ es) → is_digit d ≡ true
 digit_at [] d es all = digit_is d (all 0 (omega arith)).0 (all 0 (omega arith)).1
 digit_at (c ∷ ds) d es all = digit_at ds d es (λ k h. all (suc k) (omega arith))
 
@@ -173,7 +180,7 @@ module _ (B L : List ℕ → Type 0) where
       })))
 
   -- digits that go on behind a run of digits
-  digits_on : (ds xs : List ℕ) → AllDigits ds → ((d : ℕ) (xs : List ℕ) → L (d ∷ xs) → is_digit d ≡ false) → Digits L (ds ++ xs) → L xs ⊎ DigitFirst xs
+  pub digits_on : (ds xs : List ℕ) → AllDigits ds → ((d : ℕ) (xs : List ℕ) → L (d ∷ xs) → is_digit d ≡ false) → Digits L (ds ++ xs) → L xs ⊎ DigitFirst xs
   digits_on ds xs all none (es, rest, some, each, e, m) =
       ⊎_elim
       (λ s. further s.0 s.1 s.2)

@@ -12,7 +12,7 @@ use Rattle.aiger.specs.declared.states.Letter.{Letter}
 use Rattle.aiger.specs.declared.states.Letter.TheVariants.{Input, Output}
 use Rattle.aiger.specs.declared.states.State.{State}
 use Rattle.aiger.specs.declared.states.State.TheVariants.{Start, Position, Gap, Name, Comment, Done}
-use Rattle.aiger.proofs.Pieces.{Faulty, stuck_here, shift, Number, nought, cons_same, digits_first}
+use Rattle.aiger.proofs.Pieces.{Faulty, Undigited, not_digit, stuck_here, shift, Number, nought, cons_same, digits_first}
 
 abbrev pub Going : State → List ℕ → Type 0
 Going Start = Begins closing
@@ -40,15 +40,15 @@ Short (Name l p k) = k ≤ max_name
 Short Comment = Unit {0}
 Short Done = Unit {0}
 
-name_some : (k : ℕ) → k ≤ max_name → (xs : List ℕ) × NameRest k xs
-name_some zero h = (97 ∷ 10 ∷ [], record { name = 97 ∷ []; rest = []; some = omega arith; few = omega arith; bytes = (refl, tt); text = refl })
-name_some (suc k) h = (10 ∷ [], record { name = []; rest = []; some = omega arith; few = omega arith; bytes = tt; text = refl })
+pub name_some : (k : ℕ) → k ≤ max_name → Undigited (NameRest k)
+name_some zero h = (97 ∷ 10 ∷ [], record { name = 97 ∷ []; rest = []; some = omega arith; few = omega arith; bytes = (refl, tt); text = refl }, not_digit 97 (10 ∷ []) refl)
+name_some (suc k) h = (10 ∷ [], record { name = []; rest = []; some = omega arith; few = omega arith; bytes = tt; text = refl }, not_digit 10 [] refl)
 
 pub going_some : (s : State) → Short s → (xs : List ℕ) × Going s xs
 going_some Start h = ([], inl (inl refl))
 going_some (Position l) h = let n = name_some 0 (omega arith) in (48 ∷ 32 ∷ n.0, (0, 48 ∷ [], 32 ∷ n.0, nought, refl, (n.0, refl, n.1)))
 going_some (Gap l p) h = let n = name_some 0 (omega arith) in (32 ∷ n.0, (n.0, refl, n.1))
-going_some (Name l p k) h = name_some k h
+going_some (Name l p k) h = let n = name_some k h in (n.0, n.1)
 going_some Comment h = (10 ∷ [], ([], refl, tt))
 going_some Done h = ([], tt)
 
@@ -67,6 +67,11 @@ Allowed (Gap l p) (Some b) = b ≡ 32
 Allowed (Name l p k) (Some b) = ((b ≡ 10) × (1 ≤ k)) ⊎ ((nameable (class_of b) ≡ true) × (k < max_name))
 Allowed Comment (Some b) = b ≡ 10
 Allowed Done (Some b) = Unit {0}
+
+pub no_start : (b : ℕ) → (b ≡ 105 → ⊥) → (b ≡ 111 → ⊥) → (b ≡ 99 → ⊥) → Allowed Start (Some b) → ⊥
+no_start b i o c (inl e) = i e
+no_start b i o c (inr (inl e)) = o e
+no_start b i o c (inr (inr e)) = c e
 
 first_of_text : (s : State) (xs ys : List ℕ) → xs ≡ ys → Allowed s (slice_get ys 0) → Allowed s (slice_get xs 0)
 first_of_text s xs ys e a = subst (λ (x : List ℕ). Allowed s (slice_get x 0)) (sym e) a
@@ -121,7 +126,7 @@ letter_going l xs (v, ds, ts, num, e, (rest, f, r)) =
       },
     )
 
-not_c : (l : Letter) → letter_byte l ≡ 99 → ⊥
+pub not_c : (l : Letter) → letter_byte l ≡ 99 → ⊥
 not_c Input e = absurd (omega arith)
 not_c Output e = absurd (omega arith)
 
@@ -138,11 +143,11 @@ comment_loosely xs (inl (inl e)) = cc
 comment_loosely xs (inl (inr (more, e))) = (more, (cons_same 99 99 xs (10 ∷ more) e).1, tt)
 comment_loosely xs (inr (k, (rest, e, m))) = absurd (not_c k (sym (cons_same 99 (letter_byte k) xs rest e).0))
 
-name_going : (k b : ℕ) (xs : List ℕ) → nameable (class_of b) ≡ true → NameRest (k + 1) xs → NameRest k (b ∷ xs)
+pub name_going : (k b : ℕ) (xs : List ℕ) → nameable (class_of b) ≡ true → NameRest (k + 1) xs → NameRest k (b ∷ xs)
 name_going k b xs nb r =
     record { name = b ∷ r.name; rest = r.rest; some = omega arith; few = omega (arith, r.few); bytes = (nb, r.bytes); text = ap (λ (x : List ℕ). b ∷ x) r.text }
 
-name_loosely : (k b : ℕ) (xs : List ℕ) → nameable (class_of b) ≡ true → NameRest k (b ∷ xs) → NameRest (k + 1) xs
+pub name_loosely : (k b : ℕ) (xs : List ℕ) → nameable (class_of b) ≡ true → NameRest k (b ∷ xs) → NameRest (k + 1) xs
 name_loosely k b xs nb r = by_name r.name r.few r.bytes r.text
   where
     by_name : (name : List ℕ) → k + length name ≤ max_name → NameBytes name → b ∷ xs ≡ name ++ 10 ∷ r.rest → NameRest (k + 1) xs

@@ -84,14 +84,22 @@ pub record Named (bs : List ℕ) (v : Verdict) (n : ℕ) (z : List Bool) (l : Le
   pub text : NameRest k ts
   pub after : After bs v n z l p text.rest
 
+-- the line that the machine is in goes well, and then all as it may
+abbrev pub Well : List ℕ → Verdict → ℕ → List Bool → State → List ℕ → Type 0
+Well bs v n z Start ts = Lines bs v n z ts
+Well bs v n z (Position l) ts = (p : ℕ) × (ds : List ℕ) × (rest : List ℕ) × Numeral p ds × (ts ≡ ds ++ 32 ∷ rest) × Named bs v n z l p 0 rest
+Well bs v n z (Gap l p) ts = (rest : List ℕ) × (ts ≡ 32 ∷ rest) × Named bs v n z l p 0 rest
+Well bs v n z (Name l p k) ts = Named bs v n z l p k ts
+Well bs v n z Comment ts = Accepts v × (rest : List ℕ) × (ts ≡ 10 ∷ rest)
+Well bs v n z Done ts = Accepts v
+
 abbrev pub Rest : List ℕ → Verdict → ℕ → List Bool → State → List ℕ → Type 0
-Rest bs v n z Start ts = Lines bs v n z ts
-Rest bs v n z (Position l) ts =
-    ((p : ℕ) × (ds : List ℕ) × (rest : List ℕ) × Numeral p ds × (ts ≡ ds ++ 32 ∷ rest) × Named bs v n z l p 0 rest) ⊎ Astray bs v (Position l) ts
-Rest bs v n z (Gap l p) ts = ((rest : List ℕ) × (ts ≡ 32 ∷ rest) × Named bs v n z l p 0 rest) ⊎ Astray bs v (Gap l p) ts
-Rest bs v n z (Name l p k) ts = Named bs v n z l p k ts ⊎ Astray bs v (Name l p k) ts
-Rest bs v n z Comment ts = (Accepts v × (rest : List ℕ) × (ts ≡ 10 ∷ rest)) ⊎ Astray bs v Comment ts
-Rest bs v n z Done ts = Accepts v
+Rest bs v n z Start ts = Well bs v n z Start ts
+Rest bs v n z (Position l) ts = Well bs v n z (Position l) ts ⊎ Astray bs v (Position l) ts
+Rest bs v n z (Gap l p) ts = Well bs v n z (Gap l p) ts ⊎ Astray bs v (Gap l p) ts
+Rest bs v n z (Name l p k) ts = Well bs v n z (Name l p k) ts ⊎ Astray bs v (Name l p k) ts
+Rest bs v n z Comment ts = Well bs v n z Comment ts ⊎ Astray bs v Comment ts
+Rest bs v n z Done ts = Well bs v n z Done ts
 
 -- the machine after the newline of a line with the slot s
 abbrev pub ended : SymbolMachine → ℕ → SymbolMachine

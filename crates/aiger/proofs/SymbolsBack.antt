@@ -26,7 +26,7 @@ use Rattle.aiger.specs.declared.symbols.SymbolMachine.{SymbolMachine}
 use Rattle.aiger.proofs.NumberTexts.{number_back}
 use Rattle.aiger.proofs.Pieces.{byte_on, number_stuck, number_on}
 use Rattle.aiger.proofs.LineFaults.{behind}
-use Rattle.aiger.proofs.SymbolForms.{Short, going_some, Allowed, Lost, lost_here, lost_letter, lost_comment, lost_name}
+use Rattle.aiger.proofs.SymbolForms.{Short, going_some, Allowed, no_start, Lost, lost_here, lost_letter, lost_comment, lost_name}
 use Rattle.aiger.proofs.SymbolSteps.{Step, going, ran, onward}
 use Rattle.aiger.proofs.SymbolTexts.{Verdict, Accepted, Refused, Misread, answer, place, Taken, Astray, Lines, After, Rest, ended, accepts, slot_back, slot_none}
 
@@ -57,11 +57,6 @@ taken_at bs (Refused q) n z l o p rest taken end h = (taken, ap (λ (i : ℕ). d
   where
     same : (p q : ℕ) → ◌≡◌ {A = Answer} (Err (NoSlot p)) (Err (NoSlot q)) → q ≡ p
     same p q h = cc
-
-no_start : (b : ℕ) → (b ≡ 105 → ⊥) → (b ≡ 111 → ⊥) → (b ≡ 99 → ⊥) → Allowed Start (Some b) → ⊥
-no_start b i o c (inl e) = i e
-no_start b i o c (inr (inl e)) = o e
-no_start b i o c (inr (inr e)) = c e
 
 module _ (bs : List ℕ) (v : Verdict) where
   abbrev RestAt : SymbolMachine → Type 0

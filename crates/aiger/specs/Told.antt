@@ -1,10 +1,9 @@
 -- What a refused file is told. Assumes nothing.
 --
 --   says    what a fault says of the file: a rule that it breaks on a line, or a place of its text and the line of the place
---   told    a fault is told only of a file of which it says the truth, and a broken rule is told of every file that breaks it so
+--   told    a fault is told exactly where what it says of the file is true; so nothing else is true of a file that is refused
 use Rattle.std.specs.Prelude.{◌≡◌, ℕ, List, Err, Result}
 use Rattle.circuit.specs.declared.reading.Reading.{Reading}
-use Rattle.faults.specs.declared.circuit.Rule.{Rule}
 use Rattle.faults.specs.declared.circuit.CircuitFault.{CircuitFault}
 use Rattle.faults.specs.declared.circuit.CircuitFault.TheVariants.{Text, Broken}
 use Rattle.aiger.specs.FaultLines.{fault_line}
@@ -17,4 +16,4 @@ Says file words (Broken rule line) = BrokenBy file words rule line
 
 pub record Told (file : List ℕ) (words : ℕ) (answer : Result Reading CircuitFault) : Type 0 where
   pub says : (fault : CircuitFault) → answer ≡ Err fault → Says file words fault
-  pub tells : (rule : Rule) (line : ℕ) → BrokenBy file words rule line → answer ≡ Err (Broken rule line)
+  pub tells : (fault : CircuitFault) → Says file words fault → answer ≡ Err fault

@@ -20,7 +20,7 @@ use Rattle.circuit.proofs.WordRows.{few_words}
 use Rattle.aiger.specs.Reads.{read_of}
 use Rattle.faults.specs.declared.circuit.CircuitFault.TheVariants.{Broken}
 use Rattle.aiger.specs.Told.{Told}
-use Rattle.aiger.proofs.BrokenTold.{rules_told}
+use Rattle.aiger.proofs.MalformedTold.{answer_told}
 use Rattle.cubes.specs.declared.entry.Entry.{Entry}
 use Rattle.table.specs.Tables.{table_answer}
 use Rattle.listing.specs.declared.arity.Arity.{Arity}
@@ -56,7 +56,7 @@ taken_small r table =
 -- ---- a file that breaks the rule of the gate table has kept the one of the most gates
 
 read_roomy : (bs : List ℕ) (n : ℕ) → 2 * max_gates ≤ n → IfErr (read_of bs n).1 (λ e. TableShort e → ⊥)
-read_roomy bs n room = by (read_of bs n).1 (rules_told bs n _ _ refl)
+read_roomy bs n room = by (read_of bs n).1 (answer_told bs n _ _ refl)
   where
     by : (r : Result Reading CircuitFault) → Told bs n r → IfErr r (λ e. TableShort e → ⊥)
     by (Ok reading) told = tt

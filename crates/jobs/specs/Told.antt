@@ -4,8 +4,7 @@
 --   in a cube    a row that the cube holds
 -- Assumes nothing.
 use Rattle.std.specs.Prelude.{◌≡◌, ℕ, ◌^◌, ◌<◌, Bool, ◌↔◌, List, [], map, Some, Err, Result}
-use Rattle.faults.specs.declared.circuit.Rule.{Rule}
-use Rattle.faults.specs.declared.circuit.CircuitFault.TheVariants.{Broken}
+use Rattle.faults.specs.declared.circuit.CircuitFault.{CircuitFault}
 use Rattle.faults.specs.declared.job.Fault.{Fault}
 use Rattle.faults.specs.declared.job.Fault.TheVariants.{Circuit, Table, Listing}
 use Rattle.faults.specs.declared.job.Stage.TheVariants.{Reading as StageReading}
@@ -14,7 +13,6 @@ use Rattle.circuit.specs.declared.reading.Reading.{Reading}
 use Rattle.circuit.specs.Circuits.{Netlist}
 use Rattle.circuit.specs.Solutions.{solves}
 use Rattle.aiger.specs.Grammar.{Written, gate_words}
-use Rattle.aiger.specs.Refused.{BrokenBy}
 use Rattle.aiger.specs.Told.{Says}
 use Rattle.cubes.specs.declared.cube.Cube.{Cube}
 use Rattle.cubes.specs.declared.entry.Entry.{Entry}
@@ -62,10 +60,10 @@ SaysOf file words (Circuit fault) = Says file words fault
 SaysOf file words (Table fault) = ⊥
 SaysOf file words (Listing fault) = ⊥
 
--- an answer that refuses the file says the truth of it, and a rule that the file breaks is what it tells
+-- while reading an answer refuses the file exactly with the fault that says the truth of it
 pub record Refusals {X : Type 0} (file : List ℕ) (words : ℕ) (answer : Result X JobFault) : Type 0 where
   pub says : (refusal : JobFault) → answer ≡ Err refusal → refusal.stage ≡ StageReading → SaysOf file words refusal.fault
-  pub tells : (rule : Rule) (line : ℕ) → BrokenBy file words rule line → answer ≡ Err (at_reading (Broken rule line))
+  pub tells : (fault : CircuitFault) → Says file words fault → answer ≡ Err (at_reading fault)
 
 -- ---- two texts of one mode
 
