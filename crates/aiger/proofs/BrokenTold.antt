@@ -29,7 +29,7 @@ use Rattle.aiger.proofs.NumberTexts.{number_line_read}
 use Rattle.aiger.proofs.LiteralTexts.{inputs_read, output_read}
 use Rattle.aiger.proofs.GateTexts.{gate_of, gate_read, fits_read, filled, gates_read}
 use Rattle.aiger.proofs.LineFaults.{header_within, inputs_within, output_within}
-use Rattle.aiger.proofs.RefusedRules.{range_false, range_true, equal_false, equal_true, less_true, lines_cut}
+use Rattle.aiger.proofs.Says.{range_false, range_true, equal_false, equal_true, less_true, lines_cut}
 use Rattle.aiger.proofs.Apart.{all_in, apart_free, breaks_taken}
 use Rattle.aiger.proofs.LineCounts.{at_place}
 use Rattle.aiger.proofs.SymbolTexts.{Refused, Lines}

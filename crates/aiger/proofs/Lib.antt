@@ -17,6 +17,6 @@ pub mod Apart
 pub mod Whole
 pub mod Exact
 pub mod LineCounts
-pub mod RefusedRules
+pub mod Says
 pub mod BrokenTold
 pub mod MalformedTold

@@ -25,7 +25,7 @@ use Rattle.aiger.proofs.Apart.{all_in, apart_free}
 use Rattle.aiger.proofs.SymbolTexts.{Misread, Lines}
 use Rattle.aiger.proofs.SymbolsRead.{symbols_read, strays_read}
 use Rattle.aiger.proofs.LinesTold.{Line, literal_told, gate_told, header_told}
-use Rattle.aiger.proofs.RefusedRules.{says}
+use Rattle.aiger.proofs.Says.{says}
 use Rattle.aiger.proofs.BrokenTold.{table, told, lost, short, after_header, after_inputs, after_output, after_gates}
 
 -- the lines of the inputs, of the output and of the gates

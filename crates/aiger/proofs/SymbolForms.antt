@@ -6,7 +6,7 @@ use Rattle.faults.specs.declared.text.TextFault.TheVariants.{Misfit}
 use Rattle.text.specs.Numbers.{is_digit}
 use Rattle.text.specs.Classes.{class_of}
 use Rattle.aiger.specs.Symbols.{max_name, nameable}
-use Rattle.aiger.specs.Grammar.{letter_byte, NameBytes}
+use Rattle.aiger.specs.Grammar.{Symbol, letter_byte, NameBytes, SymbolForm}
 use Rattle.aiger.specs.Malformed.{closing, Begins, Anything, Byte, Digits, NameRest, Loose}
 use Rattle.aiger.specs.declared.states.Letter.{Letter}
 use Rattle.aiger.specs.declared.states.Letter.TheVariants.{Input, Output}
@@ -51,6 +51,10 @@ going_some (Gap l p) h = let n = name_some 0 (omega arith) in (32 ∷ n.0, (n.0,
 going_some (Name l p k) h = let n = name_some k h in (n.0, n.1)
 going_some Comment h = (10 ∷ [], ([], refl, tt))
 going_some Done h = ([], tt)
+
+-- the name of a symbol line
+pub name_of : (s : Symbol) (ts rest : List ℕ) → SymbolForm s ts rest → NameRest 0 (s.name ++ 10 ∷ rest)
+name_of s ts rest form = record { name = s.name; rest = rest; some = omega (arith, form.some); few = omega (arith, form.few); bytes = form.bytes; text = refl }
 
 -- what may stand first, if anything stands there
 

@@ -26,28 +26,15 @@ use Rattle.aiger.proofs.LineFaults.{behind}
 use Rattle.aiger.proofs.LinesTold.{nothing_wrong}
 use Rattle.aiger.proofs.Pieces.{Why, Undigited, cons_same, none_some, not_digit}
 use Rattle.aiger.proofs.PiecesTold.{none_there, first_wrong, first_right, byte_right, number_cases}
-use Rattle.aiger.proofs.SymbolForms.{Going, Loosely, Short, name_some, going_some, name_going, name_loosely, Allowed, allowed, Lost, not_c, no_start}
+use Rattle.aiger.proofs.SymbolForms.{Going, Loosely, Short, name_of, name_some, going_some, name_going, name_loosely, Allowed, allowed, Lost, not_c, no_start}
 use Rattle.aiger.proofs.SymbolSteps.{Step, going, ran, onward}
 
 -- a text that begins so may have any digits for its position
 going_loosely : (s : State) (xs : List ℕ) → Going s xs → Loosely s xs
 going_loosely Start xs (inl e) = inl e
 going_loosely Start xs (inr (s, rest, form)) =
-    inr (
-      s.letter,
-      (
-        form.ds ++ 32 ∷ (s.name ++ 10 ∷ rest),
-        form.text,
-        (
-          form.ds,
-          32 ∷ (s.name ++ 10 ∷ rest),
-          form.position.some,
-          form.position.digit,
-          refl,
-          (s.name ++ 10 ∷ rest, refl, record { name = s.name; rest = rest; some = omega (arith, form.some); few = omega (arith, form.few); bytes = form.bytes; text = refl }),
-        ),
-      ),
-    )
+    let name = s.name ++ 10 ∷ rest in
+    inr (s.letter, (form.ds ++ 32 ∷ name, form.text, (form.ds, 32 ∷ name, form.position.some, form.position.digit, refl, (name, refl, name_of s xs rest form))))
 going_loosely (Position l) xs (v, ds, rest, num, e, m) = (ds, rest, num.some, num.digit, e, m)
 going_loosely (Gap l p) xs m = m
 going_loosely (Name l p k) xs m = m
@@ -81,14 +68,9 @@ letter_back : (l : Letter) (xs : List ℕ) → Begins closing (letter_byte l ∷
 letter_back l xs (inl (inl e)) = cc
 letter_back l xs (inl (inr (more, e))) = absurd (not_c l (cons_same (letter_byte l) 99 xs (10 ∷ more) e).0)
 letter_back l xs (inr (s, rest, form)) =
-    let name = s.name ++ 10 ∷ rest in (
-      s.position,
-      form.ds,
-      32 ∷ name,
-      form.position,
-      (cons_same (letter_byte l) (letter_byte s.letter) xs (form.ds ++ 32 ∷ name) form.text).1,
-      (name, refl, record { name = s.name; rest = rest; some = omega (arith, form.some); few = omega (arith, form.few); bytes = form.bytes; text = refl }),
-    )
+    let name = s.name ++ 10 ∷ rest in
+    let same = cons_same (letter_byte l) (letter_byte s.letter) xs (form.ds ++ 32 ∷ name) form.text in
+    (s.position, form.ds, 32 ∷ name, form.position, same.1, (name, refl, name_of s (letter_byte l ∷ xs) rest form))
 
 comment_back : (xs : List ℕ) → Begins closing (99 ∷ xs) → Going Comment xs
 comment_back xs (inl (inl e)) = cc

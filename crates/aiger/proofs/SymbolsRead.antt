@@ -1,5 +1,5 @@
--- The symbol machine accepts symbol lines of the grammar up to the end, and refuses the position that is too large or taken
--- after them. Assumes nothing.
+-- The symbol machine accepts symbol lines of the grammar up to the end, and refuses the position that is too large or taken, or
+-- the line that is malformed, after them. Assumes nothing.
 use Rattle.std.proofs.Common.{◌≡◌, ℕ, zero, suc, ◌+◌, ◌-◌, ◌<◌, ◌≤◌, Bool, true, false, ltb, leb, List, [], ◌∷◌, ◌++◌, length, get_or, drop, set, replicate, Ok, Err, Result, sym, refl, ap, ◌∙◌, subst, inl, inr, ◌⊎◌, ⊎_elim, arith}
 use Rattle.std.proofs.lemmas.List.{drop_all, length-append, length-drop}
 use Rattle.std.proofs.lemmas.Bool.Decides.{nat_tests}

@@ -1,4 +1,4 @@
--- A refused file breaks the rule that is told, on the line that is told. Assumes nothing.
+-- What is told of a file is true of it: it breaks the rule on the line, or its text is malformed at the place. Assumes nothing.
 use Rattle.std.proofs.Common.{◌≡◌, ℕ, zero, suc, ◌+◌, ◌*◌, ◌<◌, ◌≤◌, true, false, not, ◌||◌, eqb, ltb, leb, List, [], ◌∷◌, length, drop, replicate, Ok, Err, IfErr, Result, sym, refl, ap, ◌∙◌, subst, arith}
 use Rattle.std.specs.Result.{result_map_both}
 use Rattle.std.proofs.lemmas.List.{length-replicate}
