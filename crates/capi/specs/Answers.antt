@@ -50,5 +50,10 @@ abbrev pub DueNumber : ℕ → Type 0
 DueNumber n = ((n ≤ 15) × (n ≡ 9 → ⊥)) ⊎ (n ≡ 18)
 
 -- an answer that refuses the file while reading is of a fault that says the truth of it
-abbrev pub Truthful : List ℕ → Answer → Type 0
-Truthful file answer = (answer.number ≡ 0 → ⊥) → answer.stage ≡ stage_code Reading → (fault : CircuitFault) × (answer ≡ refused (at_reading fault)) × SaysOf file enough.gate_table (OfCircuit fault)
+abbrev pub OfTruth : List ℕ → Answer → Type 0
+OfTruth file answer = (answer.number ≡ 0 → ⊥) → answer.stage ≡ stage_code Reading → (fault : CircuitFault) × (answer ≡ refused (at_reading fault)) × SaysOf file enough.gate_table (OfCircuit fault)
+
+-- and every such fault is answered
+pub record Truthful (file : List ℕ) (answer : Answer) : Type 0 where
+  pub says : OfTruth file answer
+  pub tells : (fault : CircuitFault) → SaysOf file enough.gate_table (OfCircuit fault) → answer ≡ refused (at_reading fault)
