@@ -7,16 +7,16 @@ use Rattle.text.specs.Runs.{next}
 use Rattle.text.proofs.Answers.{next_next, next_id}
 use Rattle.aiger.specs.Lines.{header_in, header_read, gate_in, gate_at}
 use Rattle.aiger.specs.Grammar.{NumberLine}
-use Rattle.aiger.specs.Malformed.{header, numbers, Begins, Anything, Byte, DigitLine, Loose}
+use Rattle.aiger.specs.Malformed.{header, numbers, Begins, Anything, Byte, DigitLine, Loose, Why}
 use Rattle.aiger.proofs.LineFaults.{Plain, plain_some, Spelt, byte_some, widen, expect_within, item_within}
-use Rattle.aiger.proofs.Pieces.{Why, Faulty, none_some}
+use Rattle.aiger.proofs.Pieces.{Faulty, none_some}
 use Rattle.aiger.proofs.PiecesTold.{expect_told, item_told}
 
 -- nothing is wrong where anything may stand
 pub nothing_wrong : (bs ts : List ℕ) (e : TextFault) → Faulty Anything Anything bs ts e → ⊥
 nothing_wrong bs ts e f = by_why e f.why
   where
-    by_why : (e : TextFault) → Why Anything Anything bs f.front f.here e → ⊥
+    by_why : (e : TextFault) → Why Anything bs f.front f.here e → ⊥
     by_why TooLong w = w
     by_why (Misfit q) w = w.1 f.here tt refl
     by_why (BadNumber q) w = let d = w.1 [] tt in none_some d.0 d.1

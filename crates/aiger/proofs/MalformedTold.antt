@@ -14,7 +14,7 @@ use Rattle.aiger.specs.Lines.{header_read, inputs_at, output_at, gate_at, gates_
 use Rattle.aiger.specs.Reads.{Answer, into_of, settled, read_of}
 use Rattle.aiger.specs.Told.{Says, Told}
 use Rattle.aiger.specs.Grammar.{InputLines, GateLines}
-use Rattle.aiger.specs.Malformed.{Kind, header, Begins, Loose, Due, at_header, at_input, at_output, at_gate, at_closing, Malformed}
+use Rattle.aiger.specs.Malformed.{Kind, header, Begins, Loose, Due, at_header, at_input, at_output, at_gate, at_closing, LineMalformed, Malformed}
 use Rattle.aiger.proofs.NumberTexts.{number_line_read}
 use Rattle.aiger.proofs.GateTexts.{gate_of, gate_read, fits_read}
 use Rattle.aiger.proofs.Pieces.{Faulty}
@@ -87,11 +87,13 @@ module _ (bs : List ℕ) (w : ℕ) where
       } in
       after_gates bs w h gs after u (SymbolText e) _ count refl (λ p at. symbols_read bs (Misread e) (strays_read bs e) p h.inputs (subst (Lines bs (Misread e) h.inputs z) (sym at) whole))
 
-  pub malformed_told : (e : TextFault) → Malformed bs w e → (into_of bs (table bs w)).1 ≡ Err (Text (located_at bs e))
+  of_line : (e : TextFault) → LineMalformed bs w e → (into_of bs (table bs w)).1 ≡ Err (Text (located_at bs e))
+  of_line e m = malformed_line m.kind (m.front ++ m.here) e m.due (record { front = m.front; here = m.here; split = refl; begins = m.begins; why = m.why })
+
+  malformed_told : (e : TextFault) → Malformed bs w e → (into_of bs (table bs w)).1 ≡ Err (Text (located_at bs e))
   malformed_told TooLong long = ap (λ (a : Answer). a.1) (cond-true _ _ _ (lt-ltb max_file_bytes (length bs) long))
-  malformed_told (Misfit place) m = malformed_line m.kind (m.front ++ m.here) (Misfit place) m.due (record { front = m.front; here = m.here; split = refl; begins = m.begins; why = (m.at, m.stuck) })
-  malformed_told (BadNumber place) m =
-      malformed_line m.kind (m.front ++ m.here) (BadNumber place) m.due (record { front = m.front; here = m.here; split = refl; begins = m.begins; why = (m.at, m.only, m.some, m.none) })
+  malformed_told (Misfit place) m = of_line (Misfit place) m
+  malformed_told (BadNumber place) m = of_line (BadNumber place) m
 
   fault_told : (fault : CircuitFault) → Says bs w fault → (into_of bs (table bs w)).1 ≡ Err fault
   fault_told (Text located) (m, line) = malformed_told located.fault m ∙ (λ i. Err (Text (record { fault = located.fault; line = sym line i })))

@@ -1,5 +1,5 @@
 -- Texts piece by piece: where a text of a form stops to be one. Assumes nothing.
-use Rattle.std.proofs.Common.{◌≡◌, ℕ, zero, suc, ◌+◌, ◌≤◌, true, false, eqb, List, [], ◌∷◌, ◌++◌, length, get_or, drop, Some, None, Ok, Err, Result, Option, slice_get, sym, refl, ap, ◌∙◌, subst, inl, inr, ◌⊎◌, ⊎_elim, append_assoc, arith}
+use Rattle.std.proofs.Common.{◌≡◌, ℕ, zero, suc, ◌≤◌, true, false, eqb, List, [], ◌∷◌, ◌++◌, length, get_or, drop, Some, None, Ok, Err, Result, Option, slice_get, sym, refl, ap, ◌∙◌, subst, inl, inr, ◌⊎◌, ⊎_elim, append_assoc, arith}
 use Rattle.std.proofs.lemmas.List.{length-drop, drop-drop}
 use Rattle.std.proofs.lemmas.Bool.{cond-true, cond_both, false≢true, eqb-true, eqb-false, and_from, le-leb}
 use Rattle.std.proofs.lemmas.Bool.Decides.{nat_tests}
@@ -8,25 +8,18 @@ use Rattle.faults.specs.declared.text.TextFault.TheVariants.{TooLong, Misfit, Ba
 use Rattle.text.specs.Numbers.{is_digit, AllDigits, digits, fair, number_at}
 use Rattle.text.proofs.Digits.{all_digits}
 use Rattle.aiger.specs.Grammar.{Numeral}
-use Rattle.aiger.specs.Malformed.{Byte, Digits, DigitFirst}
+use Rattle.aiger.specs.Malformed.{Byte, Digits, DigitFirst, Why}
 use Rattle.aiger.proofs.NumberTexts.{judge_back, number_back}
 
 -- texts that begin so, and the same with any digits for their numbers
 module _ (B L : List ℕ → Type 0) where
-  -- why the file bs is wrong where here stands, after front
-  abbrev pub Why : List ℕ → List ℕ → List ℕ → TextFault → Type 0
-  Why bs front here TooLong = ⊥
-  Why bs front here (Misfit q) = (q + length here ≡ length bs) × ((xs : List ℕ) → L (front ++ xs) → slice_get xs 0 ≡ slice_get here 0 → ⊥)
-  Why bs front here (BadNumber q) =
-      (q + length here ≡ length bs) × ((xs : List ℕ) → L (front ++ xs) → DigitFirst xs) × (1 ≤ length (digits here)) × ((v : ℕ) → Numeral v (digits here) → ⊥)
-
   -- the text ts of the file has this fault
   pub record Faulty (bs ts : List ℕ) (e : TextFault) : Type 0 where
     pub front : List ℕ
     pub here : List ℕ
     pub split : ts ≡ front ++ here
     pub begins : (xs : List ℕ) × B (front ++ xs)
-    pub why : Why bs front here e
+    pub why : Why L bs front here e
 
   -- at its first byte
   pub stuck_here : (bs : List ℕ) (p : ℕ) → p ≤ length bs → (xs : List ℕ) × B xs → ((xs : List ℕ) → L xs → slice_get xs 0 ≡ slice_get (drop p bs) 0 → ⊥) → Faulty bs (drop p bs) (Misfit p)
@@ -59,7 +52,7 @@ module _ (B L B' L' : List ℕ → Type 0) (front ts : List ℕ) (more : (xs : L
   less_only f here xs e only l =
       ⊎_elim only (λ over. ⊎_elim (λ d. d) (λ d. absurd (over.1 (subst DigitFirst (sym e) d))) (digit_front f xs here over.0)) (less (f ++ xs) l)
 
-  why_on : (bs f here : List ℕ) (e : TextFault) → ts ≡ f ++ here → Why B' L' bs f here e → Why B L bs (front ++ f) here e
+  why_on : (bs f here : List ℕ) (e : TextFault) → ts ≡ f ++ here → Why L' bs f here e → Why L bs (front ++ f) here e
   why_on bs f here TooLong split w = w
   why_on bs f here (Misfit q) split (at, stuck) = (at, (λ xs l s. stuck xs (less_stuck f here xs split s (subst L (append_assoc front f xs) l)) s))
   why_on bs f here (BadNumber q) split (at, only, some, none) = (at, (λ xs l. less_only f here xs split (only xs) (subst L (append_assoc front f xs) l)), some, none)

@@ -11,10 +11,10 @@ use Rattle.text.specs.Runs.{next}
 use Rattle.text.proofs.Digits.{all_digits}
 use Rattle.text.proofs.Answers.{next_next}
 use Rattle.aiger.specs.Grammar.{Numeral}
-use Rattle.aiger.specs.Malformed.{Byte, Digits, DigitFirst}
+use Rattle.aiger.specs.Malformed.{Byte, Digits, DigitFirst, Why}
 use Rattle.aiger.proofs.NumberTexts.{digits_front, judge_back, expect_read, expect_back}
 use Rattle.aiger.proofs.LineFaults.{first_split, ok_not_err, behind, number_within}
-use Rattle.aiger.proofs.Pieces.{Why, Faulty, Undigited, Number, cons_same, splits, digit_at, digit_same, digits_first, digits_on, none_some, not_digit, run_end, run_some}
+use Rattle.aiger.proofs.Pieces.{Faulty, Undigited, Number, cons_same, splits, digit_at, digit_same, digits_first, digits_on, none_some, not_digit, run_end, run_some}
 
 -- the place of a text that stands at p
 place_is : (bs : List ℕ) (p q : ℕ) (here : List ℕ) → p ≤ length bs → drop p bs ≡ here → q + length here ≡ length bs → q ≡ p
@@ -27,7 +27,7 @@ module _ (B L : List ℕ → Type 0) (plain : Undigited L) where
   pub first_wrong : (bs : List ℕ) (p : ℕ) (e : TextFault) → p ≤ length bs → Faulty B L bs (drop p bs) e → ((xs : List ℕ) → B xs → slice_get xs 0 ≡ slice_get (drop p bs) 0 → ⊥) → e ≡ Misfit p
   first_wrong bs p e low f other = by_front f.front f.split f.begins.1 e f.why
     where
-      by_front : (front : List ℕ) → drop p bs ≡ front ++ f.here → B (front ++ f.begins.0) → (e : TextFault) → Why B L bs front f.here e → e ≡ Misfit p
+      by_front : (front : List ℕ) → drop p bs ≡ front ++ f.here → B (front ++ f.begins.0) → (e : TextFault) → Why L bs front f.here e → e ≡ Misfit p
       by_front (c ∷ front) split m e w = absurd (other (c ∷ (front ++ f.begins.0)) m (sym (ap (λ (x : List ℕ). slice_get x 0) split)))
       by_front [] split m TooLong w = absurd w
       by_front [] split m (Misfit q) w = ap Misfit (place_is bs p q f.here low split w.0)
@@ -38,13 +38,13 @@ module _ (B L : List ℕ → Type 0) (plain : Undigited L) where
       → Faulty B L bs (b ∷ rest) e → Faulty B' L' bs rest e
   first_right B' L' bs b rest e less more some f = by_front f.front f.split f.begins.1 e f.why
     where
-      behind_first : (c : ℕ) (front : List ℕ) (e : TextFault) → c ≡ b → Why B L bs (c ∷ front) f.here e → Why B' L' bs front f.here e
+      behind_first : (c : ℕ) (front : List ℕ) (e : TextFault) → c ≡ b → Why L bs (c ∷ front) f.here e → Why L' bs front f.here e
       behind_first c front TooLong same w = w
       behind_first c front (Misfit q) same (at, stuck) = (at, (λ xs l. stuck xs (subst (λ (x : ℕ). L (x ∷ (front ++ xs))) (sym same) (more (front ++ xs) l))))
       behind_first c front (BadNumber q) same (at, only, found, none) =
           (at, (λ xs l. only xs (subst (λ (x : ℕ). L (x ∷ (front ++ xs))) (sym same) (more (front ++ xs) l))), found, none)
 
-      by_front : (front : List ℕ) → b ∷ rest ≡ front ++ f.here → B (front ++ f.begins.0) → (e : TextFault) → Why B L bs front f.here e → Faulty B' L' bs rest e
+      by_front : (front : List ℕ) → b ∷ rest ≡ front ++ f.here → B (front ++ f.begins.0) → (e : TextFault) → Why L bs front f.here e → Faulty B' L' bs rest e
       by_front (c ∷ front) split m e w =
           let same = cons_same b c rest (front ++ f.here) split in
           record {
@@ -131,14 +131,14 @@ module _ (B L : List ℕ → Type 0) (begun : (xs : List ℕ) × B xs) (some : (
     alone c front es r only = no_digit some.0 some.1 (only some.0 (c ∷ front, some.0, omega arith, front_digits (c ∷ front) es (subst AllDigits r all), refl, some.1))
 
     -- the whole run stands where the number is due
-    at_run : (front : List ℕ) (d : ℕ) (es here : List ℕ) (e : TextFault) → run ≡ front ++ d ∷ es → here ≡ d ∷ (es ++ rest) → Why (Number B) (Digits L) bs front here e
+    at_run : (front : List ℕ) (d : ℕ) (es here : List ℕ) (e : TextFault) → run ≡ front ++ d ∷ es → here ≡ d ∷ (es ++ rest) → Why (Digits L) bs front here e
         → (front ≡ []) × ((q : ℕ) × (e ≡ BadNumber q) × (q + length here ≡ length bs) × ((v : ℕ) → Numeral v (digits here) → ⊥))
     at_run front d es here TooLong r h w = absurd w
     at_run front d es here (Misfit q) r h (at, stuck) = absurd (over front d es here r h stuck)
     at_run [] d es here (BadNumber q) r h (at, only, found, none) = (refl, (q, refl, at, none))
     at_run (c ∷ front) d es here (BadNumber q) r h (at, only, found, none) = absurd (alone c front (d ∷ es) r only)
 
-    behind_why : (front g here : List ℕ) (e : TextFault) → front ≡ run ++ g → Why (Number B) (Digits L) bs front here e → Why B L bs g here e
+    behind_why : (front g here : List ℕ) (e : TextFault) → front ≡ run ++ g → Why (Digits L) bs front here e → Why L bs g here e
     behind_why front g here TooLong f w = w
     behind_why front g here (Misfit q) f (at, stuck) = (at, (λ xs l. stuck xs (run, g ++ xs, long, all, ap (λ (x : List ℕ). x ++ xs) f ∙ append_assoc run g xs, l)))
     behind_why front g here (BadNumber q) f (at, only, found, none) =
@@ -165,12 +165,12 @@ module _ (B L : List ℕ → Type 0) (begun : (xs : List ℕ) × B xs) (some : (
         no_run : DigitFirst here → ⊥
         no_run d = let some = run_some here d in absurd (omega (arith, none))
 
-        by_why : (e : TextFault) → Why (Number B) (Digits L) bs [] f.here e → here ≡ f.here → e ≡ Misfit p
+        by_why : (e : TextFault) → Why (Digits L) bs [] f.here e → here ≡ f.here → e ≡ Misfit p
         by_why TooLong w split = absurd w
         by_why (Misfit q) w split = ap Misfit (place_is bs p q f.here low split w.0)
         by_why (BadNumber q) w split = let same : length run ≡ length (digits f.here) = ap (λ (x : List ℕ). length (digits x)) split in absurd (omega (arith, w.2))
 
-        by_front : (front : List ℕ) → here ≡ front ++ f.here → Number B (front ++ f.begins.0) → (e : TextFault) → Why (Number B) (Digits L) bs front f.here e → e ≡ Misfit p
+        by_front : (front : List ℕ) → here ≡ front ++ f.here → Number B (front ++ f.begins.0) → (e : TextFault) → Why (Digits L) bs front f.here e → e ≡ Misfit p
         by_front [] split m e w = by_why e w split
         by_front (c ∷ front) split m e w = absurd (no_run (digit_same (c ∷ (front ++ f.begins.0)) here (sym (ap (λ (x : List ℕ). slice_get x 0) split)) (digits_first B _ (loosen _ m))))
 

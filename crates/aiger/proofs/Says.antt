@@ -21,7 +21,7 @@ use Rattle.aiger.specs.Lines.{up, keep, Within, header_read, header_fits, inputs
 use Rattle.aiger.specs.Symbols.{slots, first, refused_at}
 use Rattle.aiger.specs.Reads.{Answer, lines_of, into_of, settled, read_of}
 use Rattle.aiger.specs.Grammar.{NumberLine, HeaderLine, InputLines, GateLines, Symbol, SymbolForm, SymbolLines}
-use Rattle.aiger.specs.Malformed.{Kind, header, numbers, closing, Begins, Loose, Due, at_header, at_input, at_output, at_gate, at_closing, Malformed}
+use Rattle.aiger.specs.Malformed.{Kind, header, numbers, closing, Begins, Loose, Due, at_header, at_input, at_output, at_gate, at_closing, LineMalformed, Malformed}
 use Rattle.aiger.specs.Told.{Says}
 use Rattle.aiger.specs.Refused.{Keeps, HeaderBroken, UpToInputs, UpToGates, GateBreaks, GateBroken, SymbolBroken}
 use Rattle.aiger.specs.declared.gates.Gate.{Gate}
@@ -43,11 +43,12 @@ use Rattle.aiger.proofs.GateTexts.{gate_back, fits_back, gates_back}
 
 -- of a line that is due
 malformed : (file : List ℕ) (words : ℕ) (kind : Kind) (here : List ℕ) (e : TextFault) → Due file words kind here → Faulty (Begins kind) (Loose kind) file here e → Malformed file words e
-malformed file words kind here TooLong due f = absurd f.why
-malformed file words kind here (Misfit q) due f =
-    record { kind = kind; front = f.front; here = f.here; due = subst (Due file words kind) f.split due; at = f.why.0; begins = f.begins; stuck = f.why.1 }
-malformed file words kind here (BadNumber q) due f =
-    record { kind = kind; front = f.front; here = f.here; due = subst (Due file words kind) f.split due; at = f.why.0; begins = f.begins; only = f.why.1; some = f.why.2; none = f.why.3 }
+malformed file words kind here e due f = of_line e (record { kind = kind; front = f.front; here = f.here; due = subst (Due file words kind) f.split due; begins = f.begins; why = f.why })
+  where
+    of_line : (e : TextFault) → LineMalformed file words e → Malformed file words e
+    of_line TooLong m = absurd m.why
+    of_line (Misfit q) m = m
+    of_line (BadNumber q) m = m
 
 -- faults that are carried up
 

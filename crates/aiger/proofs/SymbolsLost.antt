@@ -14,7 +14,7 @@ use Rattle.text.proofs.Runs.{past_end, inside}
 use Rattle.aiger.specs.Lines.{up}
 use Rattle.aiger.specs.Symbols.{max_name, nameable, starts, placed, longer, named, step_by, step_of, is_done, is_over, end_of}
 use Rattle.aiger.specs.Grammar.{letter_byte}
-use Rattle.aiger.specs.Malformed.{Begins, Loose, closing, Anything, Byte, DigitFirst, NameRest}
+use Rattle.aiger.specs.Malformed.{Begins, Loose, closing, Anything, Byte, DigitFirst, NameRest, Why}
 use Rattle.aiger.specs.declared.states.Letter.{Letter}
 use Rattle.aiger.specs.declared.states.Letter.TheVariants.{Input, Output}
 use Rattle.aiger.specs.declared.states.State.{State}
@@ -24,7 +24,7 @@ use Rattle.aiger.specs.declared.states.SymbolFault.TheVariants.{Text}
 use Rattle.aiger.specs.declared.symbols.SymbolMachine.{SymbolMachine}
 use Rattle.aiger.proofs.LineFaults.{behind}
 use Rattle.aiger.proofs.LinesTold.{nothing_wrong}
-use Rattle.aiger.proofs.Pieces.{Why, Undigited, cons_same, none_some, not_digit}
+use Rattle.aiger.proofs.Pieces.{Undigited, cons_same, none_some, not_digit}
 use Rattle.aiger.proofs.PiecesTold.{none_there, first_wrong, first_right, byte_right, number_cases}
 use Rattle.aiger.proofs.SymbolForms.{Going, Loosely, Short, name_of, name_some, going_some, name_going, name_loosely, Allowed, allowed, Lost, not_c, no_start}
 use Rattle.aiger.proofs.SymbolSteps.{Step, going, ran, onward}
@@ -184,7 +184,7 @@ module _ (bs : List ℕ) (e : TextFault) where
   pub start_ends : Lost bs Start [] e → ⊥
   start_ends f = by_front f.front f.here f.split e f.why
     where
-      by_front : (front here : List ℕ) → [] ≡ front ++ here → (e : TextFault) → Why (Begins closing) (Loose closing) bs front here e → ⊥
+      by_front : (front here : List ℕ) → [] ≡ front ++ here → (e : TextFault) → Why (Loose closing) bs front here e → ⊥
       by_front (c ∷ front) here split e w = cc
       by_front [] here split TooLong w = w
       by_front [] here split (Misfit q) w = w.1 [] (inl (inl refl)) (ap (λ (x : List ℕ). slice_get x 0) split)

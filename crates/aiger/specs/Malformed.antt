@@ -5,8 +5,9 @@
 --   here         the text from a place on
 --   begins       a text begins with a line of a kind
 --   loose        the same, but that each of its numbers may be any digits
---   misfit       no line of the kind goes on as the file does at the place, nor would one with any digits for a number
---   bad number   only a number can go on at the place, and the digits there are none
+--   due          the lines before here are right, and here a line of this kind is to stand
+--   why          a misfit: no line of the kind goes on as the file does at the place, nor would one with any digits for a number;
+--                a bad number: only a number can go on there, and the digits there are none
 --   malformed    the file is so at the place of a fault of the text, or it has too many bytes
 use Rattle.std.specs.Prelude.{◌≡◌, ℕ, zero, suc, ◌+◌, ◌<◌, ◌≤◌, ◌⊎◌, true, Some, List, ◌∷◌, ◌++◌, length, slice_get}
 use Rattle.faults.specs.Reports.{max_file_bytes}
@@ -63,7 +64,6 @@ Loose closing = λ ts. Ending ts ⊎ ((l : Letter) × Byte (letter_byte l) (Digi
 abbrev pub DigitFirst : List ℕ → Type 0
 DigitFirst ts = (d : ℕ) × (slice_get ts 0 ≡ Some d) × (is_digit d ≡ true)
 
--- the lines before here are right, and here a line of this kind is due
 pub data Due (file : List ℕ) (words : ℕ) : Kind → List ℕ → Type 0 where
   at_header : length file ≤ max_file_bytes → Due file words header file
   at_input : (h : Header) (k : ℕ) (here : List ℕ) → UpToInputs file words h k here → k < h.inputs → Due file words (numbers 0) here
@@ -72,27 +72,22 @@ pub data Due (file : List ℕ) (words : ℕ) : Kind → List ℕ → Type 0 wher
   at_closing : (h : Header) (gs : List (ℕ × ℕ)) (symbols : List Symbol) (after_gates here : List ℕ) → UpToGates file words h gs after_gates → length gs ≡ h.gates
       → SymbolLines h.inputs symbols after_gates here → Apart symbols → Due file words closing here
 
-pub record MisfitAt (file : List ℕ) (words place : ℕ) : Type 0 where
-  pub kind : Kind
-  pub front : List ℕ
-  pub here : List ℕ
-  pub due : Due file words kind (front ++ here)
-  pub at : place + length here ≡ length file
-  pub begins : (ts : List ℕ) × Begins kind (front ++ ts)
-  pub stuck : (ts : List ℕ) → Loose kind (front ++ ts) → slice_get ts 0 ≡ slice_get here 0 → ⊥
+-- why the text of the file is wrong where here stands, behind front in a line of this loose form
+abbrev pub Why : (List ℕ → Type 0) → List ℕ → List ℕ → List ℕ → TextFault → Type 0
+Why Line file front here TooLong = ⊥
+Why Line file front here (Misfit place) = (place + length here ≡ length file) × ((ts : List ℕ) → Line (front ++ ts) → slice_get ts 0 ≡ slice_get here 0 → ⊥)
+Why Line file front here (BadNumber place) =
+    (place + length here ≡ length file) × ((ts : List ℕ) → Line (front ++ ts) → DigitFirst ts) × (1 ≤ length (digits here)) × ((v : ℕ) → Numeral v (digits here) → ⊥)
 
-pub record BadNumberAt (file : List ℕ) (words place : ℕ) : Type 0 where
+pub record LineMalformed (file : List ℕ) (words : ℕ) (fault : TextFault) : Type 0 where
   pub kind : Kind
   pub front : List ℕ
   pub here : List ℕ
   pub due : Due file words kind (front ++ here)
-  pub at : place + length here ≡ length file
   pub begins : (ts : List ℕ) × Begins kind (front ++ ts)
-  pub only : (ts : List ℕ) → Loose kind (front ++ ts) → DigitFirst ts
-  pub some : 1 ≤ length (digits here)
-  pub none : (v : ℕ) → Numeral v (digits here) → ⊥
+  pub why : Why (Loose kind) file front here fault
 
 abbrev pub Malformed : List ℕ → ℕ → TextFault → Type 0
 Malformed file words TooLong = max_file_bytes < length file
-Malformed file words (Misfit place) = MisfitAt file words place
-Malformed file words (BadNumber place) = BadNumberAt file words place
+Malformed file words (Misfit place) = LineMalformed file words (Misfit place)
+Malformed file words (BadNumber place) = LineMalformed file words (BadNumber place)
