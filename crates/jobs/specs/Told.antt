@@ -1,4 +1,5 @@
--- What the printed text tells: the finished list of the file's circuit, by its story; and what two texts of one mode tell together.
+-- What a job tells: by the printed text, the finished list of the file's circuit, by its story; by two texts of one mode, whether
+-- the solutions are the same; by a refusal while it reads, what is true of the file.
 --   n and S      the circuit's number of inputs and its solutions
 --   story        the calls that led to the finished listing; it has no waivers
 --   in a cube    a row that the cube holds
