@@ -1,5 +1,5 @@
 -- Lines of numbers: where one is refused it is malformed. Assumes nothing.
-use Rattle.std.proofs.Common.{◌≡◌, ℕ, zero, suc, ◌+◌, ◌*◌, ◌≤◌, false, ◌&&◌, eqb, ltb, List, [], ◌∷◌, ◌++◌, length, get_or, drop, Some, Ok, Err, Result, slice_get, sym, refl, ap, ◌∙◌, subst, inl, inr, ◌⊎◌, ⊎_elim, arith}
+use Rattle.std.proofs.Common.{◌≡◌, ℕ, zero, suc, ◌+◌, ◌*◌, ◌≤◌, false, ◌&&◌, eqb, ltb, List, [], ◌∷◌, ◌++◌, length, get_or, drop, Some, Ok, Err, Result, slice_get, sym, refl, ap, ◌∙◌, subst, inl, ⊎_elim, arith}
 use Rattle.std.proofs.lemmas.List.{length-drop}
 use Rattle.std.proofs.lemmas.Bool.{ltb-true, and_parts, cond_both}
 use Rattle.faults.specs.declared.text.TextFault.{TextFault}
@@ -7,7 +7,7 @@ use Rattle.faults.specs.declared.text.TextFault.TheVariants.{Misfit}
 use Rattle.text.specs.Numbers.{is_digit, digits, number_at}
 use Rattle.text.specs.Lines.{expect_at, item_at, numbers_at, word_at, header_at}
 use Rattle.text.specs.Runs.{next}
-use Rattle.text.proofs.Answers.{ok_same, after_test, in_test, next_ok, of_five}
+use Rattle.text.proofs.Answers.{ok_same, err_same, after_test, in_test, next_ok, next_err, of_five}
 use Rattle.text.proofs.Digits.{all_digits}
 use Rattle.faults.specs.declared.circuit.CircuitFault.TheVariants.{Text}
 use Rattle.aiger.specs.FaultLines.{located_at, located_in}
@@ -20,13 +20,6 @@ use Rattle.aiger.proofs.Carried.{up_ok, told_ok}
 use Rattle.aiger.proofs.NumberTexts.{before, judge_back, expect_read, expect_back}
 use Rattle.aiger.proofs.HeaderTexts.{word_back}
 use Rattle.aiger.proofs.Pieces.{Faulty, shift, byte_stuck, byte_on, Number, nought, number_stuck, number_on}
-
-next_err : {X Y E : Type 0} (r : Result X E) (k : X → Result Y E) (e : E) → next r k ≡ Err e → (r ≡ Err e) ⊎ ((x : X) × (r ≡ Ok x) × (k x ≡ Err e))
-next_err (Ok x) k e h = inr (x, refl, h)
-next_err (Err d) k e h = inl (same d e h)
-  where
-    same : {X Y E : Type 0} (d e : E) → ◌≡◌ {A = Result Y E} (Err d) (Err e) → ◌≡◌ {A = Result X E} (Err d) (Err e)
-    same d e h = cc
 
 -- the places stay within the file
 
@@ -101,10 +94,7 @@ module _ (b : ℕ) (B L : List ℕ → Type 0) where
       let other : slice_get (drop p bs) 0 ≡ Some b → ⊥ = λ s. let f = first_split (drop p bs) b s in let ok = expect_read bs p b f.0 f.1 in ok_not_err (p + 1) e (sym ok.0 ∙ r) in
       cond_both (ltb p (length bs) && eqb (get_or bs p 0) b) _ _ (λ (a : Result ℕ TextFault). a ≡ Err e → Faulty (Byte b B) (Byte b L) bs (drop p bs) e)
       (λ t a. absurd (ok_not_err (p + 1) e a))
-      (λ f a. subst (Faulty (Byte b B) (Byte b L) bs (drop p bs)) (same (Misfit p) e a) (byte_stuck b B L bs p h some other)) r
-    where
-      same : (d e : TextFault) → ◌≡◌ {A = Result ℕ TextFault} (Err d) (Err e) → d ≡ e
-      same d e h = cc
+      (λ f a. subst (Faulty (Byte b B) (Byte b L) bs (drop p bs)) (err_same (Misfit p) e a) (byte_stuck b B L bs p h some other)) r
 
   expect_on : (bs : List ℕ) (p q : ℕ) (e : TextFault) → expect_at bs p b ≡ Ok q → Faulty B L bs (drop q bs) e → Faulty (Byte b B) (Byte b L) bs (drop p bs) e
   expect_on bs p q e r f = subst (λ (ts : List ℕ). Faulty (Byte b B) (Byte b L) bs ts e) (sym (expect_back bs p b q r)) (byte_on b B L bs (drop q bs) e f)

@@ -6,6 +6,7 @@ use Rattle.std.proofs.lemmas.Bool.Decides.{nat_tests}
 use Rattle.faults.specs.declared.text.TextFault.{TextFault}
 use Rattle.faults.specs.declared.text.TextFault.TheVariants.{TooLong, Misfit, BadNumber}
 use Rattle.text.specs.Numbers.{is_digit, AllDigits, digits, fair, number_at}
+use Rattle.text.proofs.Answers.{err_same}
 use Rattle.text.proofs.Digits.{all_digits}
 use Rattle.aiger.specs.Grammar.{Numeral}
 use Rattle.aiger.specs.Malformed.{Byte, Digits, DigitFirst, Why}
@@ -145,9 +146,6 @@ numeral_fair v ds n = grind (arith, nat_tests)
 pub digit_at : (ds : List ℕ) (d : ℕ) (es : List ℕ) → AllDigits (ds ++ d ∷ es) → is_digit d ≡ true
 digit_at [] d es all = digit_is d (all 0 (omega arith)).0 (all 0 (omega arith)).1
 digit_at (c ∷ ds) d es all = digit_at ds d es (λ k h. all (suc k) (omega arith))
-
-err_same : {X E : Type 0} (d e : E) → ◌≡◌ {A = Result X E} (Err d) (Err e) → d ≡ e
-err_same d e h = cc
 
 module _ (B L : List ℕ → Type 0) where
   pub number_stuck : (bs : List ℕ) (p : ℕ) (e : TextFault) → p ≤ length bs → (xs : List ℕ) × B xs → number_at bs p ≡ Err e → Faulty (Number B) (Digits L) bs (drop p bs) e

@@ -35,13 +35,10 @@ Answer = Result (Unit {0}) SymbolFault
 
 -- what each verdict says of a fault
 
-text_same : (d e : TextFault) → ◌≡◌ {A = Answer} (Err (Text d)) (Err (Text e)) → d ≡ e
-text_same d e h = cc
-
 astray : (bs : List ℕ) (v : Verdict) (s : State) (ts : List ℕ) (e : TextFault) → Lost bs s ts e → ◌≡◌ {A = Answer} (Err (Text e)) (answer v) → Astray bs v s ts
 astray bs Accepted s ts e l h = cc
 astray bs (Refused q) s ts e l h = cc
-astray bs (Misread d) s ts e l h = subst (Lost bs s ts) (text_same e d h) l
+astray bs (Misread d) s ts e l h = let same : e ≡ d = cc h in subst (Lost bs s ts) same l
 
 astray_on : (bs : List ℕ) (v : Verdict) (s t : State) (ts us : List ℕ) → ((e : TextFault) → Lost bs t us e → Lost bs s ts e) → Astray bs v t us → Astray bs v s ts
 astray_on bs Accepted s t ts us f a = a
@@ -53,10 +50,7 @@ taken_at : (bs : List ℕ) (v : Verdict) (n : ℕ) (z : List Bool) (l : Letter) 
     → ◌≡◌ {A = Answer} (Err (NoSlot p)) (answer v) → Taken bs v n z l o rest
 taken_at bs Accepted n z l o p rest taken end h = cc
 taken_at bs (Misread e) n z l o p rest taken end h = cc
-taken_at bs (Refused q) n z l o p rest taken end h = (taken, ap (λ (i : ℕ). drop i bs) (same p q h) ∙ end)
-  where
-    same : (p q : ℕ) → ◌≡◌ {A = Answer} (Err (NoSlot p)) (Err (NoSlot q)) → q ≡ p
-    same p q h = cc
+taken_at bs (Refused q) n z l o p rest taken end h = let same : q ≡ p = cc h in (taken, ap (λ (i : ℕ). drop i bs) same ∙ end)
 
 module _ (bs : List ℕ) (v : Verdict) where
   abbrev RestAt : SymbolMachine → Type 0

@@ -1,9 +1,12 @@
--- Answers one after the other: what a good one came from. Assumes nothing.
-use Rattle.std.proofs.Common.{◌≡◌, ℕ, suc, Bool, true, false, cond, List, [], ◌∷◌, length, Ok, Err, IfOk, Result, refl, arith}
+-- Answers one after the other: what a good one came from, and what a refusal. Assumes nothing.
+use Rattle.std.proofs.Common.{◌≡◌, ℕ, suc, Bool, true, false, cond, List, [], ◌∷◌, length, Ok, Err, IfOk, Result, refl, ap, inl, inr, ◌⊎◌, arith}
 use Rattle.text.specs.Runs.{next}
 
 pub ok_same : {X E : Type 0} (x y : X) → ◌≡◌ {A = Result X E} (Ok x) (Ok y) → x ≡ y
 ok_same x y e = cc
+
+pub err_same : {X E : Type 0} (d e : E) → ◌≡◌ {A = Result X E} (Err d) (Err e) → d ≡ e
+err_same d e h = cc
 
 -- a test before which a refusal stands
 pub after_test : {X E : Type 0} (t : Bool) (r : Result X E) (y : X) (f : E) → cond t (Err f) r ≡ Ok y → (t ≡ false) × (r ≡ Ok y)
@@ -17,6 +20,10 @@ in_test false r y f e = cc
 pub next_ok : {X Y E : Type 0} (r : Result X E) (k : X → Result Y E) (y : Y) → next r k ≡ Ok y → (x : X) × (r ≡ Ok x) × (k x ≡ Ok y)
 next_ok (Ok x) k y e = (x, refl, e)
 next_ok (Err f) k y e = cc
+
+pub next_err : {X Y E : Type 0} (r : Result X E) (k : X → Result Y E) (e : E) → next r k ≡ Err e → (r ≡ Err e) ⊎ ((x : X) × (r ≡ Ok x) × (k x ≡ Err e))
+next_err (Ok x) k e h = inr (x, refl, h)
+next_err (Err d) k e h = inl (ap Err (err_same d e h))
 
 pub next_if : {X Y E : Type 0} (r : Result X E) (k : X → Result Y E) (P : X → Type 0) (Q : Y → Type 0) → IfOk r P → ((x : X) → P x → IfOk (k x) Q) → IfOk (next r k) Q
 next_if (Ok x) k P Q p f = f x p

@@ -1,4 +1,4 @@
-use Rattle.std.proofs.Common.{◌≡◌, ℕ, IfErr, Result, sym, ap, subst, rules}
+use Rattle.std.proofs.Common.{◌≡◌, ℕ, IfErr, Result, sym, ap, ◌∙◌, subst, rules}
 use Rattle.std.proofs.lemmas.List.{length-replicate}
 use Rattle.faults.specs.declared.job.JobFault.{JobFault}
 use Rattle.cubes.specs.Cubes.{blank}
@@ -6,10 +6,16 @@ use Rattle.jobs.specs.Lists.{Outcome, list_of}
 use Rattle.jobs.specs.Sizes.{enough, entry_count, blank_register}
 use Rattle.jobs.specs.Suffices.{Due}
 use Rattle.jobs.specs.Told.{Refusals}
-use Rattle.capi.specs.Answers.{DueNumber, Truthful, answer_of}
+use Rattle.capi.specs.Answers.{DueNumber, Truthful, answer_of, answered}
+use Rattle.capi.specs.declared.answer.Answer.{Answer}
 use Rattle.capi.proofs.Due.{answer_due}
 use Rattle.capi.proofs.Truth.{truthful}
 use Rattle.capi.proofs.exported.jerovuha_list.Goals as goal
+
+pub returns-clause-value : goal.returns-clause-value
+returns-clause-value c =
+    let told : answer_of c.list.result ≡ c.match-list.answer = search rules in
+    ap (λ (a : Answer). (a.number, a, c.list.new.text)) (sym told) ∙ ap answered c.list.ensures.value
 
 pub returns-clause-due : goal.returns-clause-due
 returns-clause-due c = λ long.
@@ -25,3 +31,6 @@ returns-clause-refused c =
     let told : answer_of c.list.result ≡ c.match-list.answer = search rules in
     let refusals : Refusals c.args.file.now enough.gate_table c.list.result = search rules in
     subst (Truthful c.args.file.now) told (truthful c.args.file.now c.list.result refusals)
+
+pub returns-clause-told : goal.returns-clause-told
+returns-clause-told c = search rules

@@ -16,3 +16,6 @@ returns c =
       bits = search rules;
       words = λ no. absurd (true≢false (ap is_ok went ∙ no));
     }
+
+pub returns-in_err-tabulate-clause-bits : goal.returns-in_err-tabulate-clause-bits
+returns-in_err-tabulate-clause-bits c = search rules

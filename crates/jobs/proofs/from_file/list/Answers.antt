@@ -1,4 +1,4 @@
-use Rattle.std.proofs.Common.{◌<◌, ◌≤◌, false, not, ◌&&◌, leb, is_ok, sym, ap, ◌∙◌, arith}
+use Rattle.std.proofs.Common.{◌<◌, ◌≤◌, false, not, ◌&&◌, leb, is_ok, sym, ap, ◌∙◌, arith, refl}
 use Rattle.std.proofs.lemmas.Bool.{lt-leb}
 use Rattle.circuit.specs.Netlists.{netlist}
 use Rattle.circuit.specs.Limits.{max_table_inputs}
@@ -45,6 +45,9 @@ returns-then-inputs-le-MAX_TABLE_INPUTS-clause-register c =
     let few : circuit.inputs ≤ max_table_inputs = omega (arith, c.inputs.ensures, c.if-inputs-le-MAX_TABLE_INPUTS.true) in
     file_register room circuit c.args.file.now _ c.in_ok-reading.reading c.in_ok-reading.ensures.value c.take_up-circuit.ensures c.args.mode c.args.register.now _ (few_making room circuit few) _ c.by_table.ensures.register
 
+pub returns-then-inputs-le-MAX_TABLE_INPUTS-clause-signals : goal.returns-then-inputs-le-MAX_TABLE_INPUTS-clause-signals
+returns-then-inputs-le-MAX_TABLE_INPUTS-clause-signals c = λ no. refl
+
 -- ---- by a search
 
 pub returns-clause-value : goal.returns-clause-value
@@ -81,6 +84,9 @@ returns-clause-bits c =
     let bits = c.args.workspace.bits.now in
     sym (no_table room circuit many room.words bits)
     ∙ file_after room circuit c.args.file.now _ c.in_ok-reading.reading c.in_ok-reading.ensures.value c.take_up-circuit.ensures bits (λ d. tabulated d room.words bits)
+
+pub returns-clause-words : goal.returns-clause-words
+returns-clause-words c = λ no. refl
 
 pub returns-clause-signals : goal.returns-clause-signals
 returns-clause-signals c =
