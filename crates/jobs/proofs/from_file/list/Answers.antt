@@ -1,4 +1,4 @@
-use Rattle.std.proofs.Common.{◌<◌, ◌≤◌, false, not, ◌&&◌, leb, is_ok, sym, ap, ◌∙◌, arith, refl}
+use Rattle.std.proofs.Common.{◌<◌, ◌≤◌, false, not, ◌&&◌, leb, is_ok, sym, ap, ◌∙◌, arith, refl, rules}
 use Rattle.std.proofs.lemmas.Bool.{lt-leb}
 use Rattle.circuit.specs.Netlists.{netlist}
 use Rattle.circuit.specs.Limits.{max_table_inputs}
@@ -10,6 +10,24 @@ use Rattle.jobs.proofs.Stages.{few_making, many_making, file_text, no_table, fil
 use Rattle.jobs.proofs.Suffices.{suffices}
 use Rattle.jobs.proofs.Tellings.{fits, told}
 use Rattle.jobs.proofs.from_file.list.Goals as goal
+
+-- ---- where the reading refuses
+
+-- Asked of `search` alone: what the prover tries by itself after it finds nothing of a wrong body either, and takes long.
+pub returns-in_err-reading-clause-value : goal.returns-in_err-reading-clause-value
+returns-in_err-reading-clause-value c = search rules
+
+pub returns-in_err-reading-clause-refused : goal.returns-in_err-reading-clause-refused
+returns-in_err-reading-clause-refused c = search rules
+
+pub returns-in_err-reading-clause-gates : goal.returns-in_err-reading-clause-gates
+returns-in_err-reading-clause-gates c = search rules
+
+pub returns-in_err-reading-clause-bits : goal.returns-in_err-reading-clause-bits
+returns-in_err-reading-clause-bits c = search rules
+
+pub returns-in_err-reading-clause-register : goal.returns-in_err-reading-clause-register
+returns-in_err-reading-clause-register c = search rules
 
 pub returns-in_err-reading-clause-compared : goal.returns-in_err-reading-clause-compared
 returns-in_err-reading-clause-compared c = compared
