@@ -1,4 +1,5 @@
-// Asks the table and the search the same questions about one circuit, and says on how many they agree.
+// Asks the table and the search the same questions about one circuit, and says for how many both find a row, and for how many
+// neither does.
 #![tactic(auto)]
 
 use circuit::{Circuit, Ternary, Word};
@@ -15,13 +16,21 @@ const INPUTS: u32 = 9;
 
 const ROWS: u32 = 1 << INPUTS;
 
-// Whether both find a row, or both find none.
-fn alike<A: Decider, B: Decider>(a: &mut A, b: &mut B, question: Question) -> bool {
-    a.ask(question).is_some() == b.ask(question).is_some()
+// Whether they find a row, where both do or neither does.
+fn found<A: Decider, B: Decider>(a: &mut A, b: &mut B, question: Question) -> Option<bool> {
+    let by_a = a.ask(question).is_some();
+    let by_b = b.ask(question).is_some();
+    (by_a == by_b).then_some(by_a)
 }
 
-// On how many cubes that fix the inputs of a care to the bits of a row they agree, for both wanted bits.
-fn agreements<A: Decider, B: Decider>(a: &mut A, b: &mut B, care: u32, barred: &[Entry]) -> usize {
+// For how many cubes that fix the inputs of a care to the bits of a row, for both wanted bits, both find a row, or neither.
+fn agreements<A: Decider, B: Decider>(
+    a: &mut A,
+    b: &mut B,
+    care: u32,
+    barred: &[Entry],
+    row_found: bool,
+) -> usize {
     (0..ROWS)
         .map(|row| (row, true))
         .chain((0..ROWS).map(|row| (row, false)))
@@ -31,7 +40,7 @@ fn agreements<A: Decider, B: Decider>(a: &mut A, b: &mut B, care: u32, barred: &
                 wanted: *wanted,
                 barred,
             };
-            alike(a, b, question)
+            found(a, b, question) == Some(row_found)
         })
         .count()
 }
@@ -55,11 +64,13 @@ fn main(rt: HostRuntime) -> io::Result<()> {
         Entry::waiver(Cube::low(0b000001001, 0b000000001)),
     ];
     for care in [0b111111111, 0b111100001, 0b000011111, 0b000000001] {
-        let free = agreements(&mut table, &mut search, care, &[]);
-        let shut = agreements(&mut table, &mut search, care, &barred);
-        println!(rt;
-            "care {care:09b}: of 1024 questions they agree on {free}, with barred entries on {shut}"
-        )?;
+        for (what, entries) in [("no", &barred[0..0]), ("two", &barred[..])] {
+            let rows = agreements(&mut table, &mut search, care, entries, true);
+            let none = agreements(&mut table, &mut search, care, entries, false);
+            println!(rt;
+                "care {care:09b}, {what} barred entries: of 1024 questions both find a row for {rows}, neither for {none}"
+            )?;
+        }
     }
     Ok(())
 }
