@@ -41,60 +41,89 @@ fn branched(heap: Global, circuit: Circuit, places: u32) -> Result<&'static str,
 }
 
 pub fn print(rt: &HostRuntime) -> io::Result<()> {
+    let heap = rt.alloc();
     let places = "refused 22 table 4 0";
-    tell(
-        rt,
-        "evaluate, highest variable 3, places",
-        &[(4, "output true"), (3, places)],
-        evaluated,
-    )?;
+    for (size, due) in [(4, "output true"), (3, places)] {
+        tell(
+            rt,
+            "evaluate, highest variable 3, places",
+            size,
+            evaluated(heap, size),
+            due,
+        )?;
+    }
     let inputs = "refused 21 table 17 0";
-    tell(
-        rt,
-        "count of all rows, inputs",
-        &[(16, "solutions 65536"), (17, inputs)],
-        |heap, inputs| counted(heap, always(inputs), 18),
-    )?;
-    tell(
-        rt,
-        "count, highest variable 3, places",
-        &[(4, "solutions 3"), (3, places)],
-        |heap, places| counted(heap, either(), places),
-    )?;
-    tell(
-        rt,
-        "table, inputs",
-        &[(16, "made"), (17, inputs)],
-        |heap, inputs| tabled(heap, always(inputs), 4096, 18),
-    )?;
-    tell(
-        rt,
-        "table of 16 inputs, words",
-        &[(2048, "made"), (2047, "refused 22 table 2048 0")],
-        |heap, words| tabled(heap, always(16), words, 17),
-    )?;
-    tell(
-        rt,
-        "table of 2 inputs, words",
-        &[(1, "made"), (0, "refused 22 table 1 0")],
-        |heap, words| tabled(heap, either(), words, 4),
-    )?;
-    tell(
-        rt,
-        "table, highest variable 3, places",
-        &[(4, "made"), (3, places)],
-        |heap, places| tabled(heap, either(), 1, places),
-    )?;
-    tell(
-        rt,
-        "Search, inputs",
-        &[(17, "made"), (30, "made")],
-        |heap, inputs| branched(heap, always(inputs), 31),
-    )?;
-    tell(
-        rt,
-        "Search, highest variable 3, places",
-        &[(4, "made"), (3, places)],
-        |heap, places| branched(heap, either(), places),
-    )
+    for (inputs, due) in [(16, "solutions 65536"), (17, inputs)] {
+        tell(
+            rt,
+            "count of all rows, inputs",
+            inputs,
+            counted(heap, always(inputs), 18),
+            due,
+        )?;
+    }
+    for (places, due) in [(4, "solutions 3"), (3, places)] {
+        tell(
+            rt,
+            "count, highest variable 3, places",
+            places,
+            counted(heap, either(), places),
+            due,
+        )?;
+    }
+    for (inputs, due) in [(16, "made"), (17, inputs)] {
+        tell(
+            rt,
+            "table, inputs",
+            inputs,
+            tabled(heap, always(inputs), 4096, 18),
+            due,
+        )?;
+    }
+    for (words, due) in [(2048, "made"), (2047, "refused 22 table 2048 0")] {
+        tell(
+            rt,
+            "table of 16 inputs, words",
+            words,
+            tabled(heap, always(16), words, 17),
+            due,
+        )?;
+    }
+    for (words, due) in [(1, "made"), (0, "refused 22 table 1 0")] {
+        tell(
+            rt,
+            "table of 2 inputs, words",
+            words,
+            tabled(heap, either(), words, 4),
+            due,
+        )?;
+    }
+    for (places, due) in [(4, "made"), (3, places)] {
+        tell(
+            rt,
+            "table, highest variable 3, places",
+            places,
+            tabled(heap, either(), 1, places),
+            due,
+        )?;
+    }
+    for (inputs, due) in [(17, "made"), (30, "made")] {
+        tell(
+            rt,
+            "Search, inputs",
+            inputs,
+            branched(heap, always(inputs), 31),
+            due,
+        )?;
+    }
+    for (places, due) in [(4, "made"), (3, places)] {
+        tell(
+            rt,
+            "Search, highest variable 3, places",
+            places,
+            branched(heap, either(), places),
+            due,
+        )?;
+    }
+    Ok(())
 }

@@ -1,7 +1,8 @@
-// Worked cases beside the proved ones: thirty inputs, and both sides of every limit. Prints a line a case: what came of it, and
-// whether that is what should.
+// Worked cases beside the proved ones: thirty inputs, both sides of every limit, and two deciders that agree. Prints a line a
+// case: what came of it, and at a limit whether that is what should.
 #![tactic(auto)]
 
+mod agreeing;
 mod circuits;
 mod deciding;
 mod failure;
@@ -19,5 +20,6 @@ fn main(rt: HostRuntime) -> io::Result<()> {
     reading::print(&rt)?;
     deciding::print(&rt)?;
     waiving::print(&rt)?;
-    registers::print(&rt)
+    registers::print(&rt)?;
+    agreeing::print(&rt)
 }

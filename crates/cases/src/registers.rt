@@ -12,19 +12,14 @@ use std::alloc::{AllocError, Global};
 use std::io;
 use table::Table;
 
-// The finished listing of `either`.
-fn listed(register: &mut [Entry]) -> Result<Finished, ListingFault> {
-    let mut bits = [0u32; 1];
-    let mut table = either_table(&mut bits);
-    finish(Draft::open(1, 2)?.begin(), register, &mut table)
-}
-
-// The finished listing of `either` without row 3: the cubes are the rows 1 and 2.
-fn listed_but_one(register: &mut [Entry]) -> Result<Finished, ListingFault> {
+// The finished listing of `either` without the waived rows.
+fn listed(register: &mut [Entry], waived: &[Cube]) -> Result<Finished, ListingFault> {
     let mut bits = [0u32; 1];
     let mut table = either_table(&mut bits);
     let mut draft = Draft::open(1, 2)?;
-    draft.waive(register, Cube::low(3, 3))?;
+    for row in waived {
+        draft.waive(register, *row)?;
+    }
     finish(draft.begin(), register, &mut table)
 }
 
@@ -33,23 +28,17 @@ fn total(heap: Global, finished: &Finished, register: &[Entry]) -> Result<String
     Ok(format!(in heap; "total {total}")?)
 }
 
-// The total of a listing in a register of so many entries.
-fn total_in<F: Fn(&mut [Entry]) -> Result<Finished, ListingFault>>(
-    heap: Global,
-    entries: u32,
-    list: F,
-) -> Result<String, Failure>
-    requires { F.IsAlwaysCallable list }
-{
+// The total of the list of `either` without the waived rows, in a register of so many entries.
+fn total_in(heap: Global, entries: u32, waived: &[Cube]) -> Result<String, Failure> {
     let mut register = vec![in heap; EMPTY; entries as usize]?;
-    let finished = list(register.as_mut_slice())?;
+    let finished = listed(register.as_mut_slice(), waived)?;
     total(heap, &finished, register.as_slice())
 }
 
 // Adds up the cubes of `either`, with a front part of the register.
 fn front_total(heap: Global, front: u32) -> Result<String, Failure> {
     let mut register = [EMPTY; 2];
-    let finished = listed(&mut register)?;
+    let finished = listed(&mut register, &[])?;
     total(heap, &finished, &register[0..front.min(2) as usize])
 }
 
@@ -98,65 +87,92 @@ fn next_after(heap: Global, waivers: u32) -> Result<&'static str, Failure> {
 fn text_length(heap: Global, front: u32, bytes: u32) -> Result<String, Failure> {
     let mut register = [EMPTY; 2];
     let mut text = vec![in heap; 0u8; bytes as usize]?;
-    let finished = listed(&mut register)?;
+    let finished = listed(&mut register, &[])?;
     let front = &register[0..front.min(2) as usize];
     let length = pla::print(&finished, front, text.as_mut_slice())?;
     Ok(format!(in heap; "bytes {length}")?)
 }
 
 pub fn print(rt: &HostRuntime) -> io::Result<()> {
+    let heap = rt.alloc();
     let none = "refused 18 listing 0 0";
     let one = "refused 18 listing 1 0";
-    tell(
-        rt,
-        "list of 2 cubes, register entries",
-        &[(2, "total 3"), (1, one), (0, none)],
-        |heap, entries| total_in(heap, entries, listed),
-    )?;
-    tell(
-        rt,
-        "list of a waiver and 2 cubes, register entries",
-        &[(3, "total 2"), (2, "refused 18 listing 2 0")],
-        |heap, entries| total_in(heap, entries, listed_but_one),
-    )?;
-    tell(
-        rt,
-        "second next, register entries",
-        &[(2, "listed"), (1, one), (0, "refused 19 listing 1 0")],
-        |_, front| second_next(front),
-    )?;
+    for (entries, due) in [(2, "total 3"), (1, one), (0, none)] {
+        tell(
+            rt,
+            "list of 2 cubes, register entries",
+            entries,
+            total_in(heap, entries, &[]),
+            due,
+        )?;
+    }
+    let row = [Cube::low(3, 3)];
+    for (entries, due) in [(3, "total 2"), (2, "refused 18 listing 2 0")] {
+        tell(
+            rt,
+            "list of a waiver and 2 cubes, register entries",
+            entries,
+            total_in(heap, entries, &row),
+            due,
+        )?;
+    }
+    for (front, due) in [(2, "listed"), (1, one), (0, "refused 19 listing 1 0")] {
+        tell(
+            rt,
+            "second next, register entries",
+            front,
+            second_next(front),
+            due,
+        )?;
+    }
     let short = "refused 19 listing 2 0";
-    tell(
-        rt,
-        "total of 2 cubes, register entries",
-        &[(2, "total 3"), (1, short)],
-        front_total,
-    )?;
+    for (size, due) in [(2, "total 3"), (1, short)] {
+        tell(
+            rt,
+            "total of 2 cubes, register entries",
+            size,
+            front_total(heap, size),
+            due,
+        )?;
+    }
     let other = "refused 20 listing 0 0";
-    tell(
-        rt,
-        "next of 2 inputs, decider of inputs",
-        &[(1, other), (2, "listed"), (3, other)],
-        |_, inputs| next_with(inputs),
-    )?;
-    tell(
-        rt,
-        "next in a register of 4097 entries, waivers",
-        &[(4_095, "listed"), (4_096, "refused 18 listing 4096 0")],
-        next_after,
-    )?;
+    for (inputs, due) in [(1, other), (2, "listed"), (3, other)] {
+        tell(
+            rt,
+            "next of 2 inputs, decider of inputs",
+            inputs,
+            next_with(inputs),
+            due,
+        )?;
+    }
+    for (size, due) in [(4_095, "listed"), (4_096, "refused 18 listing 4096 0")] {
+        tell(
+            rt,
+            "next in a register of 4097 entries, waivers",
+            size,
+            next_after(heap, size),
+            due,
+        )?;
+    }
     // The lines `.i 2`, `.o 1`, `.p 2`, `-1 1`, `10 1` have five bytes each, and `.e` has three.
     let text = "refused 22 table 28 0";
-    tell(
-        rt,
-        "text of 28 bytes, text memory",
-        &[(29, "bytes 28"), (28, "bytes 28"), (27, text), (0, text)],
-        |heap, bytes| text_length(heap, 2, bytes),
-    )?;
-    tell(
-        rt,
-        "text of 2 cubes, register entries",
-        &[(2, "bytes 28"), (1, short)],
-        |heap, front| text_length(heap, front, 28),
-    )
+    for (bytes, due) in [(29, "bytes 28"), (28, "bytes 28"), (27, text), (0, text)] {
+        tell(
+            rt,
+            "text of 28 bytes, text memory",
+            bytes,
+            text_length(heap, 2, bytes),
+            due,
+        )?;
+    }
+    for (front, due) in [(2, "bytes 28"), (1, short)] {
+        tell(
+            rt,
+            "text of 2 cubes, register entries",
+            front,
+            text_length(heap, front, 28),
+            due,
+        )?;
+    }
+    Ok(())
 }

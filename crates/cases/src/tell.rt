@@ -1,4 +1,4 @@
-// Prints cases of a limit, on both sides of it.
+// Prints a case of a limit.
 use crate::failure::Failure;
 use faults::{Fault, Report};
 use std::alloc::{AllocError, Global};
@@ -15,27 +15,23 @@ fn refusal(heap: Global, fault: Fault) -> Result<String, AllocError> {
     format!(in heap; "refused {number} {layer} {place} {line}")
 }
 
-// Prints a line for each size: what comes of the case at that size, and whether that is what should.
-pub fn tell<T: Display + Drop, F: Fn(Global, u32) -> Result<T, Failure>>(
+// Prints a line: what comes of the case at a size, and whether that is what should.
+pub fn tell<T: Display + Drop>(
     rt: &HostRuntime,
     what: &str,
-    sizes: &[(u32, &str)],
-    case: F,
-) -> io::Result<()>
-    requires { F.IsAlwaysCallable case }
-{
+    size: u32,
+    answer: Result<T, Failure>,
+    due: &str,
+) -> io::Result<()> {
     let heap = rt.alloc();
-    for (size, due) in sizes.iter().copied() {
-        let given = match case(heap, size) {
-            Ok(answer) => format!(in heap; "{answer}")?,
-            Err(Failure::Refused(fault)) => refusal(heap, fault)?,
-            Err(Failure::Memory(error)) => return Err(io::Error::from(error)),
-        };
-        if given.as_str() == due {
-            println!(rt; "{what} {size}: {given}, as it should be")?;
-        } else {
-            println!(rt; "{what} {size}: {given}, SHOULD BE {due}")?;
-        }
+    let given = match answer {
+        Ok(answer) => format!(in heap; "{answer}")?,
+        Err(Failure::Refused(fault)) => refusal(heap, fault)?,
+        Err(Failure::Memory(error)) => return Err(io::Error::from(error)),
+    };
+    if given.as_str() == due {
+        println!(rt; "{what} {size}: {given}, as it should be")
+    } else {
+        println!(rt; "{what} {size}: {given}, SHOULD BE {due}")
     }
-    Ok(())
 }

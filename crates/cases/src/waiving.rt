@@ -14,6 +14,13 @@ fn opened(mode: u32, inputs: u32) -> Result<&'static str, Failure> {
     Ok("opened")
 }
 
+fn cubed(care: u32) -> Result<&'static str, Failure> {
+    match Cube::new(care, 0) {
+        Some(_) => Ok("a cube"),
+        None => Ok("no cube"),
+    }
+}
+
 // Waives one cube in a draft of so many inputs.
 fn waived(inputs: u32, care: u32, value: u32) -> Result<&'static str, Failure> {
     let mut register = [EMPTY; 1];
@@ -50,60 +57,65 @@ fn waived_again(front: u32) -> Result<&'static str, Failure> {
 }
 
 pub fn print(rt: &HostRuntime) -> io::Result<()> {
+    let heap = rt.alloc();
     let mode = "refused 15 listing 0 0";
-    tell(
-        rt,
-        "mode",
-        &[(0, mode), (1, "opened"), (2, "opened"), (3, mode)],
-        |_, mode| opened(mode, 2),
-    )?;
+    for (mode, due) in [(0, mode), (1, "opened"), (2, "opened"), (3, mode)] {
+        tell(rt, "mode", mode, opened(mode, 2), due)?;
+    }
     let inputs = "refused 16 listing 0 0";
-    tell(
-        rt,
-        "inputs of a listing",
-        &[(0, inputs), (1, "opened"), (30, "opened"), (31, inputs)],
-        |_, inputs| opened(1, inputs),
-    )?;
-    tell(
-        rt,
-        "cube of care",
-        &[(1_073_741_823, "a cube"), (1_073_741_824, "no cube")],
-        |_, care| match Cube::new(care, 0) {
-            Some(_) => Ok("a cube"),
-            None => Ok("no cube"),
-        },
-    )?;
+    for (inputs, due) in [(0, inputs), (1, "opened"), (30, "opened"), (31, inputs)] {
+        tell(rt, "inputs of a listing", inputs, opened(1, inputs), due)?;
+    }
+    for (care, due) in [(1_073_741_823, "a cube"), (1_073_741_824, "no cube")] {
+        tell(rt, "cube of care", care, cubed(care), due)?;
+    }
     let waiver = "refused 17 listing 0 0";
-    tell(
-        rt,
-        "waiver of 2 inputs, care",
-        &[(3, "waived"), (4, waiver)],
-        |_, care| waived(2, care, 0),
-    )?;
-    tell(
-        rt,
-        "waiver of 29 inputs, care",
-        &[(536_870_911, "waived"), (536_870_912, waiver)],
-        |_, care| waived(29, care, 0),
-    )?;
-    tell(
-        rt,
-        "waiver of 2 inputs, care 1, value",
-        &[(0, "waived"), (1, "waived"), (2, waiver), (3, waiver)],
-        |_, value| waived(2, 1, value),
-    )?;
-    tell(
-        rt,
-        "register of 4097 entries, waivers",
-        &[(4_096, "waived"), (4_097, "refused 18 listing 4096 0")],
-        rows_waived,
-    )?;
+    for (care, due) in [(3, "waived"), (4, waiver)] {
+        tell(
+            rt,
+            "waiver of 2 inputs, care",
+            care,
+            waived(2, care, 0),
+            due,
+        )?;
+    }
+    for (care, due) in [(536_870_911, "waived"), (536_870_912, waiver)] {
+        tell(
+            rt,
+            "waiver of 29 inputs, care",
+            care,
+            waived(29, care, 0),
+            due,
+        )?;
+    }
+    for (value, due) in [(0, "waived"), (1, "waived"), (2, waiver), (3, waiver)] {
+        tell(
+            rt,
+            "waiver of 2 inputs, care 1, value",
+            value,
+            waived(2, 1, value),
+            due,
+        )?;
+    }
+    for (size, due) in [(4_096, "waived"), (4_097, "refused 18 listing 4096 0")] {
+        tell(
+            rt,
+            "register of 4097 entries, waivers",
+            size,
+            rows_waived(heap, size),
+            due,
+        )?;
+    }
     let full = "refused 18 listing 1 0";
     let short = "refused 19 listing 1 0";
-    tell(
-        rt,
-        "second waiver, register entries",
-        &[(2, "waived"), (1, full), (0, short)],
-        |_, front| waived_again(front),
-    )
+    for (front, due) in [(2, "waived"), (1, full), (0, short)] {
+        tell(
+            rt,
+            "second waiver, register entries",
+            front,
+            waived_again(front),
+            due,
+        )?;
+    }
+    Ok(())
 }

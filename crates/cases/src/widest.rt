@@ -32,11 +32,16 @@ fn list(heap: Global, mode: u32) -> Result<String, Failure> {
 
 // One cube with every input open, in both modes: 2 to the power of 30 rows.
 pub fn print(rt: &HostRuntime) -> io::Result<()> {
+    let heap = rt.alloc();
     let all = "cubes 1, first care 0 value 0, total 1073741824";
-    tell(
-        rt,
-        "thirty inputs, output 1, mode",
-        &[(1, all), (2, all)],
-        list,
-    )
+    for (size, due) in [(1, all), (2, all)] {
+        tell(
+            rt,
+            "thirty inputs, output 1, mode",
+            size,
+            list(heap, size),
+            due,
+        )?;
+    }
+    Ok(())
 }

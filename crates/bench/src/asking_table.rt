@@ -74,7 +74,7 @@ fn rounds(rt: &HostRuntime, table: &mut Table, barred: &mut [Entry]) -> io::Resu
     measure(rt, "open cubes, single", table, 0, barred)
 }
 
-pub fn print(rt: &HostRuntime) -> io::Result<()> {
+pub fn print_time(rt: &HostRuntime) -> io::Result<()> {
     // Every row is a solution.
     let reading = Reading {
         inputs: 16,

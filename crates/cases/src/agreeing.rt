@@ -1,7 +1,5 @@
 // Asks the table and the search the same questions about one circuit, and says for how many both find a row, and for how many
 // neither does.
-#![tactic(auto)]
-
 use circuit::{Circuit, Ternary, Word};
 use cubes::{Cube, Decider, Entry, Question};
 use search::{Made, Search};
@@ -45,7 +43,7 @@ fn agreements<A: Decider, B: Decider>(
         .count()
 }
 
-fn main(rt: HostRuntime) -> io::Result<()> {
+pub fn print(rt: &HostRuntime) -> io::Result<()> {
     let mut gate_table = [0u32; 18];
     let Ok(reading) = aiger::read(FILE, &mut gate_table) else {
         return println!(rt; "the circuit is refused");

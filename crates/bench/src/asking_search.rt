@@ -1,15 +1,11 @@
 // Asks the search decider about the timing family, over the cube of all rows.
-// Without an argument it prints which questions have an answer; with the argument `time` also how long each took.
-#![tactic(auto)]
-
-mod family;
-
+// Prints which questions have an answer and, if asked for, how long each took.
+use crate::family::Family;
 use circuit::Ternary;
 use cubes::{Cube, Decider, Entry, Question};
-use family::Family;
 use search::Search;
+use std::io;
 use std::time::Instant;
-use std::{env, io};
 
 // Asks once, and prints whether a row came and, if asked for, the time.
 fn ask(
@@ -54,10 +50,9 @@ fn family_questions(rt: &HostRuntime, inputs: u32, timed: bool) -> io::Result<()
     Ok(())
 }
 
-fn main(rt: HostRuntime) -> io::Result<()> {
-    let timed = env::args(&rt)?.any(|word| word.as_str() == "time");
+pub fn print(rt: &HostRuntime, timed: bool) -> io::Result<()> {
     for inputs in [17u32, 21, 25, 29] {
-        family_questions(&rt, inputs, timed)?;
+        family_questions(rt, inputs, timed)?;
     }
     Ok(())
 }
