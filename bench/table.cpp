@@ -1,4 +1,4 @@
-// The questions of crates/bench_table/src/timing.rt as a plain loop over the words of a table.
+// The questions of crates/bench/src/asking_table.rt as a plain loop over the words of a table.
 // g++ -O2 -o table table.cpp && ./table
 #include <chrono>
 #include <cstdint>

@@ -34,3 +34,9 @@ pub fn file_with_name(heap: Global, bytes: u32) -> Result<String, AllocError> {
     let name = "n".repeat(heap, bytes as usize)?;
     format!(in heap; "aag 1 1 0 1 0\n2\n1\ni0 {name}\n")
 }
+
+// A file with a number in the place of `#`.
+pub fn file_of_pattern(heap: Global, pattern: &str, number: u32) -> Result<String, AllocError> {
+    let digits = format!(in heap; "{number}")?;
+    pattern.replace(heap, '#', digits.as_str())
+}

@@ -1,27 +1,40 @@
 // The limits of a file, and of the numbers in it.
 use crate::failure::Failure;
-use crate::files::{circuit_file, file_of_bytes, file_with_digits, file_with_name};
+use crate::files::{
+    circuit_file, file_of_bytes, file_of_pattern, file_with_digits, file_with_name,
+};
 use crate::tell::tell;
-use circuit::MAX_GATES;
+use circuit::{MAX_GATES, Reading};
 use std::alloc::Global;
-use std::io;
+use std::{fmt, io};
 
 // The words of a gate table that is long enough for every circuit.
 const ALL_WORDS: u32 = 2 * MAX_GATES;
 
-// The circuit's numbers (inputs, gates, output), read into a gate table of so many words.
-fn numbers(heap: Global, file: &str, words: u32) -> Result<String, Failure> {
+// What is told of a circuit that is read.
+#[derive(Drop)]
+struct Told(Reading);
+
+impl fmt::Display for Told {
+    fn fmt<W: fmt::Write>(&self, f: &mut fmt::Formatter<W>) -> fmt::Result {
+        let Reading {
+            inputs,
+            gates,
+            output,
+        } = self.0;
+        write!(f, "circuit {inputs} {gates} {output}")
+    }
+}
+
+// Reads a file into a gate table of so many words.
+fn read(heap: Global, file: &str, words: u32) -> Result<Told, Failure> {
     let mut table = vec![in heap; 0u32; words as usize]?;
-    let reading = aiger::read(file.as_bytes(), table.as_mut_slice())?;
-    let inputs = reading.inputs;
-    let gates = reading.gates;
-    let output = reading.output;
-    Ok(format!(in heap; "circuit {inputs} {gates} {output}")?)
+    Ok(Told(aiger::read(file.as_bytes(), table.as_mut_slice())?))
 }
 
 fn tell_file(rt: &HostRuntime, what: &str, size: u32, file: String, due: &str) -> io::Result<()> {
-    let read = numbers(rt.alloc(), file.as_str(), ALL_WORDS);
-    tell(rt, what, size, read, due)
+    let answer = read(rt.alloc(), file.as_str(), ALL_WORDS);
+    tell(rt, what, size, answer, due)
 }
 
 fn print_sizes(rt: &HostRuntime) -> io::Result<()> {
@@ -61,7 +74,7 @@ fn print_sizes(rt: &HostRuntime) -> io::Result<()> {
             rt,
             "4096 gates, gate table words",
             words,
-            numbers(heap, file.as_str(), words),
+            read(heap, file.as_str(), words),
             due,
         )?;
     }
@@ -78,111 +91,96 @@ fn print_sizes(rt: &HostRuntime) -> io::Result<()> {
     Ok(())
 }
 
-// Files that differ in one number.
-fn print_numbers(rt: &HostRuntime) -> io::Result<()> {
-    let heap = rt.alloc();
-    let latches = "refused 5 circuit 1 1";
-    for (latches, due) in [(0, "circuit 1 0 1"), (1, latches)] {
-        tell_file(
-            rt,
-            "latches",
-            latches,
-            format!(in heap; "aag 1 1 {latches} 1 0\n2\n1\n")?,
-            due,
-        )?;
-    }
-    let outputs = "refused 6 circuit 1 1";
-    for (outputs, due) in [(0, outputs), (1, "circuit 1 0 1"), (2, outputs)] {
-        tell_file(
-            rt,
-            "outputs",
-            outputs,
-            format!(in heap; "aag 1 1 0 {outputs} 0\n2\n1\n")?,
-            due,
-        )?;
-    }
-    let highest = "refused 8 circuit 1 1";
-    for (highest, due) in [(2, highest), (3, "circuit 2 1 7"), (4, highest)] {
-        tell_file(
-            rt,
-            "2 inputs and 1 gate, highest variable",
-            highest,
-            format!(in heap; "aag {highest} 2 0 1 1\n2\n4\n7\n6 5 3\n")?,
-            due,
-        )?;
-    }
-    let input = "refused 10 circuit 3 3";
-    for (literal, due) in [(3, input), (4, "circuit 2 1 7"), (5, input)] {
-        tell_file(
-            rt,
-            "second input, literal",
-            literal,
-            format!(in heap; "aag 3 2 0 1 1\n2\n{literal}\n7\n6 5 3\n")?,
-            due,
-        )?;
-    }
-    let output = "refused 11 circuit 4 4";
-    for (output, due) in [(7, "circuit 2 1 7"), (8, output)] {
-        tell_file(
-            rt,
-            "highest variable 3, output",
-            output,
-            format!(in heap; "aag 3 2 0 1 1\n2\n4\n{output}\n6 5 3\n")?,
-            due,
-        )?;
-    }
-    let gate = "refused 12 circuit 5 5";
-    for (gate, due) in [(5, gate), (6, "circuit 2 1 7"), (7, gate)] {
-        tell_file(
-            rt,
-            "first gate after 2 inputs, literal",
-            gate,
-            format!(in heap; "aag 3 2 0 1 1\n2\n4\n7\n{gate} 4 3\n")?,
-            due,
-        )?;
-    }
-    let operand = "refused 13 circuit 5 5";
-    for (left, due) in [(5, "circuit 2 1 7"), (6, operand)] {
-        tell_file(
-            rt,
-            "gate 6, left operand",
-            left,
-            format!(in heap; "aag 3 2 0 1 1\n2\n4\n7\n6 {left} 3\n")?,
-            due,
-        )?;
-    }
-    for (right, due) in [(5, "circuit 2 1 7"), (6, operand)] {
-        tell_file(
-            rt,
-            "gate 6, right operand",
-            right,
-            format!(in heap; "aag 3 2 0 1 1\n2\n4\n7\n6 3 {right}\n")?,
-            due,
-        )?;
-    }
-    let symbol = "refused 14 circuit 5 5";
-    for (place, due) in [(1, "circuit 2 0 1"), (2, symbol)] {
-        tell_file(
-            rt,
-            "2 inputs, symbol position",
-            place,
-            format!(in heap; "aag 2 2 0 1 0\n2\n4\n1\ni{place} x\n")?,
-            due,
-        )?;
-    }
-    for (place, due) in [(0, "circuit 2 0 1"), (1, symbol)] {
-        tell_file(
-            rt,
-            "1 output, symbol position",
-            place,
-            format!(in heap; "aag 2 2 0 1 0\n2\n4\n1\no{place} x\n")?,
-            due,
-        )?;
+// A limit of a number in a file, whose place in the pattern is `#`.
+fn tell_numbers(
+    rt: &HostRuntime,
+    what: &str,
+    pattern: &str,
+    numbers: &[(u32, &str)],
+) -> io::Result<()> {
+    for (number, due) in numbers.iter().copied() {
+        let file = file_of_pattern(rt.alloc(), pattern, number)?;
+        tell_file(rt, what, number, file, due)?;
     }
     Ok(())
 }
 
+fn print_header_numbers(rt: &HostRuntime) -> io::Result<()> {
+    let latches = "refused 5 circuit 1 1";
+    tell_numbers(
+        rt,
+        "latches",
+        "aag 1 1 # 1 0\n2\n1\n",
+        &[(0, "circuit 1 0 1"), (1, latches)],
+    )?;
+    let outputs = "refused 6 circuit 1 1";
+    tell_numbers(
+        rt,
+        "outputs",
+        "aag 1 1 0 # 0\n2\n1\n",
+        &[(0, outputs), (1, "circuit 1 0 1"), (2, outputs)],
+    )?;
+    let highest = "refused 8 circuit 1 1";
+    tell_numbers(
+        rt,
+        "2 inputs and 1 gate, highest variable",
+        "aag # 2 0 1 1\n2\n4\n7\n6 5 3\n",
+        &[(2, highest), (3, "circuit 2 1 7"), (4, highest)],
+    )
+}
+
+fn print_line_numbers(rt: &HostRuntime) -> io::Result<()> {
+    let input = "refused 10 circuit 3 3";
+    tell_numbers(
+        rt,
+        "second input, literal",
+        "aag 3 2 0 1 1\n2\n#\n7\n6 5 3\n",
+        &[(3, input), (4, "circuit 2 1 7"), (5, input)],
+    )?;
+    let output = "refused 11 circuit 4 4";
+    tell_numbers(
+        rt,
+        "highest variable 3, output",
+        "aag 3 2 0 1 1\n2\n4\n#\n6 5 3\n",
+        &[(7, "circuit 2 1 7"), (8, output)],
+    )?;
+    let gate = "refused 12 circuit 5 5";
+    tell_numbers(
+        rt,
+        "first gate after 2 inputs, literal",
+        "aag 3 2 0 1 1\n2\n4\n7\n# 4 3\n",
+        &[(5, gate), (6, "circuit 2 1 7"), (7, gate)],
+    )?;
+    let operand = "refused 13 circuit 5 5";
+    tell_numbers(
+        rt,
+        "gate 6, left operand",
+        "aag 3 2 0 1 1\n2\n4\n7\n6 # 3\n",
+        &[(5, "circuit 2 1 7"), (6, operand)],
+    )?;
+    tell_numbers(
+        rt,
+        "gate 6, right operand",
+        "aag 3 2 0 1 1\n2\n4\n7\n6 3 #\n",
+        &[(5, "circuit 2 1 7"), (6, operand)],
+    )?;
+    let symbol = "refused 14 circuit 5 5";
+    tell_numbers(
+        rt,
+        "2 inputs, symbol position",
+        "aag 2 2 0 1 0\n2\n4\n1\ni# x\n",
+        &[(1, "circuit 2 0 1"), (2, symbol)],
+    )?;
+    tell_numbers(
+        rt,
+        "1 output, symbol position",
+        "aag 2 2 0 1 0\n2\n4\n1\no# x\n",
+        &[(0, "circuit 2 0 1"), (1, symbol)],
+    )
+}
+
 pub fn print(rt: &HostRuntime) -> io::Result<()> {
     print_sizes(rt)?;
-    print_numbers(rt)
+    print_header_numbers(rt)?;
+    print_line_numbers(rt)
 }

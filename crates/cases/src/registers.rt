@@ -8,17 +8,17 @@ use cubes::{Cube, Entry};
 use faults::ListingFault;
 use jobs::finish;
 use listing::{Draft, Finished, Step};
-use std::alloc::{AllocError, Global};
+use std::alloc::Global;
 use std::io;
 use table::Table;
 
-// The finished listing of `either` without the waived rows.
-fn listed(register: &mut [Entry], waived: &[Cube]) -> Result<Finished, ListingFault> {
+// The finished listing of `either`, without a waived row.
+fn listed(register: &mut [Entry], waived: Option<Cube>) -> Result<Finished, ListingFault> {
     let mut bits = [0u32; 1];
     let mut table = either_table(&mut bits);
     let mut draft = Draft::open(1, 2)?;
-    for row in waived {
-        draft.waive(register, *row)?;
+    if let Some(row) = waived {
+        draft.waive(register, row)?;
     }
     finish(draft.begin(), register, &mut table)
 }
@@ -28,8 +28,8 @@ fn total(heap: Global, finished: &Finished, register: &[Entry]) -> Result<String
     Ok(format!(in heap; "total {total}")?)
 }
 
-// The total of the list of `either` without the waived rows, in a register of so many entries.
-fn total_in(heap: Global, entries: u32, waived: &[Cube]) -> Result<String, Failure> {
+// The total of the list of `either`, without a waived row, in a register of so many entries.
+fn total_in(heap: Global, entries: u32, waived: Option<Cube>) -> Result<String, Failure> {
     let mut register = vec![in heap; EMPTY; entries as usize]?;
     let finished = listed(register.as_mut_slice(), waived)?;
     total(heap, &finished, register.as_slice())
@@ -38,7 +38,7 @@ fn total_in(heap: Global, entries: u32, waived: &[Cube]) -> Result<String, Failu
 // Adds up the cubes of `either`, with a front part of the register.
 fn front_total(heap: Global, front: u32) -> Result<String, Failure> {
     let mut register = [EMPTY; 2];
-    let finished = listed(&mut register, &[])?;
+    let finished = listed(&mut register, None)?;
     total(heap, &finished, &register[0..front.min(2) as usize])
 }
 
@@ -87,7 +87,7 @@ fn next_after(heap: Global, waivers: u32) -> Result<&'static str, Failure> {
 fn text_length(heap: Global, front: u32, bytes: u32) -> Result<String, Failure> {
     let mut register = [EMPTY; 2];
     let mut text = vec![in heap; 0u8; bytes as usize]?;
-    let finished = listed(&mut register, &[])?;
+    let finished = listed(&mut register, None)?;
     let front = &register[0..front.min(2) as usize];
     let length = pla::print(&finished, front, text.as_mut_slice())?;
     Ok(format!(in heap; "bytes {length}")?)
@@ -102,17 +102,17 @@ pub fn print(rt: &HostRuntime) -> io::Result<()> {
             rt,
             "list of 2 cubes, register entries",
             entries,
-            total_in(heap, entries, &[]),
+            total_in(heap, entries, None),
             due,
         )?;
     }
-    let row = [Cube::low(3, 3)];
+    let row = Cube::low(3, 3);
     for (entries, due) in [(3, "total 2"), (2, "refused 18 listing 2 0")] {
         tell(
             rt,
             "list of a waiver and 2 cubes, register entries",
             entries,
-            total_in(heap, entries, &row),
+            total_in(heap, entries, Some(row)),
             due,
         )?;
     }

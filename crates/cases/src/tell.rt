@@ -1,18 +1,23 @@
 // Prints a case of a limit.
 use crate::failure::Failure;
-use faults::{Fault, Report};
-use std::alloc::{AllocError, Global};
-use std::fmt::Display;
+use faults::Report;
+use std::fmt::{self, Display};
 use std::io;
 
-fn refusal(heap: Global, fault: Fault) -> Result<String, AllocError> {
-    let Report {
-        number,
-        layer,
-        place,
-        line,
-    } = fault.report();
-    format!(in heap; "refused {number} {layer} {place} {line}")
+// What is told of a refusal.
+#[derive(Drop)]
+struct Refused(Report);
+
+impl Display for Refused {
+    fn fmt<W: fmt::Write>(&self, f: &mut fmt::Formatter<W>) -> fmt::Result {
+        let Report {
+            number,
+            layer,
+            place,
+            line,
+        } = self.0;
+        write!(f, "refused {number} {layer} {place} {line}")
+    }
 }
 
 // Prints a line: what comes of the case at a size, and whether that is what should.
@@ -26,7 +31,10 @@ pub fn tell<T: Display + Drop>(
     let heap = rt.alloc();
     let given = match answer {
         Ok(answer) => format!(in heap; "{answer}")?,
-        Err(Failure::Refused(fault)) => refusal(heap, fault)?,
+        Err(Failure::Refused(fault)) => {
+            let refused = Refused(fault.report());
+            format!(in heap; "{refused}")?
+        }
         Err(Failure::Memory(error)) => return Err(io::Error::from(error)),
     };
     if given.as_str() == due {
