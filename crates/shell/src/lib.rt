@@ -8,8 +8,6 @@ mod input;
 mod job;
 mod memory;
 mod program;
-#[cfg(test)]
-mod tests;
 
 pub use failure::{Failure, explain, refuse, status};
 pub use input::read_file;
