@@ -52,7 +52,7 @@ static void measure(const char *name, const std::vector<uint32_t> &bits, uint32_
         if (row >= 0) sum += (uint32_t)row + 1;
     }
     auto micros = std::chrono::duration_cast<std::chrono::microseconds>(std::chrono::steady_clock::now() - start).count();
-    printf("%s %zu entries: %lld us for %u questions, sum %u\n", name, count, (long long)micros, QUESTIONS, sum);
+    printf("%s %zu entries: %u questions, sum %u, %lld us\n", name, count, QUESTIONS, sum, (long long)micros);
 }
 
 static void rounds(const std::vector<uint32_t> &bits, size_t count) {

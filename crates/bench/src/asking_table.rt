@@ -51,30 +51,41 @@ fn sum(table: &mut Table, wanted: bool, fixed: u32, barred: &[Entry]) -> u32 {
     sum
 }
 
+// Prints the sum and, if asked for, how long the questions took.
 fn measure(
     rt: &HostRuntime,
     name: &str,
     table: &mut Table,
     fixed: u32,
     barred: &[Entry],
+    timed: bool,
 ) -> io::Result<()> {
     let entries = barred.len();
     let start = Instant::now(rt)?;
     let sum = sum(table, entries > 0, fixed, barred);
     let micros = start.elapsed(rt)?.as_micros();
-    println!(rt; "{name} {entries} entries: {micros} us for {QUESTIONS} questions, sum {sum}")
+    print!(rt; "{name} {entries} entries: {QUESTIONS} questions, sum {sum}")?;
+    if timed {
+        print!(rt; ", {micros} us")?;
+    }
+    println!(rt)
 }
 
 // Questions against scattered cubes and against single rows.
-fn rounds(rt: &HostRuntime, table: &mut Table, barred: &mut [Entry]) -> io::Result<()> {
+fn rounds(
+    rt: &HostRuntime,
+    table: &mut Table,
+    barred: &mut [Entry],
+    timed: bool,
+) -> io::Result<()> {
     scatter(barred);
-    measure(rt, "open cubes, scattered", table, 0, barred)?;
-    measure(rt, "any cubes, scattered", table, 0xFFFF, barred)?;
+    measure(rt, "open cubes, scattered", table, 0, barred, timed)?;
+    measure(rt, "any cubes, scattered", table, 0xFFFF, barred, timed)?;
     single(barred);
-    measure(rt, "open cubes, single", table, 0, barred)
+    measure(rt, "open cubes, single", table, 0, barred, timed)
 }
 
-pub fn print_time(rt: &HostRuntime) -> io::Result<()> {
+pub fn print(rt: &HostRuntime, timed: bool) -> io::Result<()> {
     // Every row is a solution.
     let reading = Reading {
         inputs: 16,
@@ -85,10 +96,10 @@ pub fn print_time(rt: &HostRuntime) -> io::Result<()> {
     let mut bits = [0u32; 2048];
     let mut values = [Word::new(0); 17];
     let (mut table, _) = Table::make(&all, &mut bits, &mut values);
-    measure(rt, "open cubes,", &mut table, 0, &[])?;
-    measure(rt, "any cubes,", &mut table, 0xFFFF, &[])?;
+    measure(rt, "open cubes,", &mut table, 0, &[], timed)?;
+    measure(rt, "any cubes,", &mut table, 0xFFFF, &[], timed)?;
     let mut few = [Entry { care: 0, value: 0 }; 64];
-    rounds(rt, &mut table, &mut few)?;
+    rounds(rt, &mut table, &mut few, timed)?;
     let mut many = [Entry { care: 0, value: 0 }; 512];
-    rounds(rt, &mut table, &mut many)
+    rounds(rt, &mut table, &mut many, timed)
 }

@@ -1,5 +1,5 @@
-// Measures what takes long: with the word `count`, `table` or `search` it prints how long one of them took. Without a word it does
-// a small piece of each, untimed, so that what is measured can be compared too.
+// Measures what takes long: with the word `count`, `table` or `search` it prints what came of one of them and how long it took.
+// Without a word it does each untimed, and small ones, so that what comes of it can be compared.
 #![tactic(auto)]
 
 mod answers;
@@ -11,19 +11,21 @@ mod family;
 use std::process::ExitCode;
 use std::{env, io};
 
-fn print_small(rt: &HostRuntime) -> io::Result<()> {
-    counting::print(rt)?;
+fn print_untimed(rt: &HostRuntime) -> io::Result<()> {
+    counting::print_small(rt)?;
+    counting::print(rt, false)?;
     answers::print(rt)?;
+    asking_table::print(rt, false)?;
     asking_search::print(rt, false)
 }
 
 // Whether the call has a meaning.
 fn print(rt: &HostRuntime) -> io::Result<bool> {
     match env::args(rt)?.nth(1) {
-        None => print_small(rt)?,
+        None => print_untimed(rt)?,
         Some(word) => match word.as_str() {
-            "count" => counting::print_time(rt)?,
-            "table" => asking_table::print_time(rt)?,
+            "count" => counting::print(rt, true)?,
+            "table" => asking_table::print(rt, true)?,
             "search" => asking_search::print(rt, true)?,
             _ => return Ok(false),
         },
