@@ -34,8 +34,11 @@ head_parts n count =
     ap (λ r. ended (codes ".i " ++ decimal n) ++ (codes ".o 1\n.p " ++ r)) (append-nil (ended (decimal count)))
     ∙ ap (λ r. codes ".i " ++ r) (append_assoc (decimal n) (codes "\n") (codes ".o 1\n.p " ++ ended (decimal count)))
 
+pub length_head : (n count : ℕ) → length (head n count) ≡ 13 + length (decimal n) + length (decimal count)
+length_head n count = omega (arith, ap length (head_parts n count), length-append {A = ℕ})
+
 pub length_head_le : (n count : ℕ) → n < 2 ^ 64 → count < 2 ^ 64 → length (head n count) ≤ 53
-length_head_le n count small few = omega (arith, ap length (head_parts n count), length-append {A = ℕ}, length_most n small, length_most count few)
+length_head_le n count small few = omega (arith, length_head n count, length_most n small, length_most count few)
 
 -- input 1 is the highest of the n bits
 pub line_more : (n care value input character : ℕ) → 1 ≤ input → input ≤ n → character ≡ character_of (position_at care value (n - input)) → ended (cube_line (n + 1 - input) care value) ≡ character ∷ ended (cube_line (n + 1 - (input + 1)) care value)

@@ -3,7 +3,7 @@ ghost use Rattle.std.specs.Prelude.{◌≡◌, ◌^◌, ◌<◌, ◌≤◌, leng
 ghost use Rattle.listing.specs.Limits.{max_inputs};
 ghost use Rattle.pla.specs.Text.{written};
 
-use crate::head::{HEAD_BYTES, write_head};
+use crate::head::{HEAD_BYTES, write_head, write_head_lines};
 use crate::line::{OUTPUT, write_cube};
 use crate::writer::Writer;
 use cubes::Entry;
@@ -25,7 +25,7 @@ pub fn write_list(n: u32, cubes: &[Entry], text: &mut [u8]) -> Result<usize, Tab
         return Err(TableFault::TextShort(needed));
     }
     let mut writer = Writer::new(text);
-    writer.write(head);
+    write_head_lines(&mut writer, n, cubes.len());
     for entry in cubes {
         write_cube(&mut writer, n, entry.cube());
     }

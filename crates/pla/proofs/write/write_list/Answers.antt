@@ -1,4 +1,4 @@
-use Rattle.std.proofs.Common.{◌+◌, ◌<◌, ◌≤◌, List, ℕ, ◌++◌, length, Ok, Err, sym, ap, ◌∙◌, ap₂, subst, arith, rules}
+use Rattle.std.proofs.Common.{◌+◌, ◌<◌, ◌≤◌, List, ℕ, length, Ok, Err, sym, ap, ◌∙◌, ap₂, subst, arith, rules}
 use Rattle.std.proofs.lemmas.Bool.{cond-true, cond-false, lt-ltb, le-ltb}
 use Rattle.faults.specs.declared.table.TableFault.TheVariants.{TextShort}
 use Rattle.pla.specs.Text.{cube_line, ended, text_of}
@@ -36,11 +36,10 @@ returns c =
     let none = lines_all n cubes c.loop-entry.entry-index (omega arith) in
     let size = text_size n cubes _ c.write_head-head.ensures in
     let fits : length (text_of n cubes) ≤ length c.args.text.now = omega arith in
-    let Ends : List ℕ → Type 0 = λ r. Wrote c.loop-entry.writer r c.write-2.new.self in
-    let Writes : List ℕ → Type 0 = λ r. Wrote c.new-writer.result r c.write-2.new.self in
-    let rest = c.loop-entry.invariant.rest _ (subst Ends (sym none) c.write-2.ensures) in
-    let parts = ap (λ r. r ++ lines_from n cubes 0) c.write_head-head.ensures ∙ sym (text_parts n cubes) in
-    let whole = subst Writes parts (wrote_more c.write.ensures rest) in
+    let Ends : List ℕ → Type 0 = λ r. Wrote c.loop-entry.writer r c.write.new.self in
+    let Writes : List ℕ → Type 0 = λ r. Wrote c.new-writer.result r c.write.new.self in
+    let rest = c.loop-entry.invariant.rest _ (subst Ends (sym none) c.write.ensures) in
+    let whole = subst Writes (sym (text_parts n cubes)) (wrote_more c.write_head_lines.ensures rest) in
     let memory = written_all c.new-writer.ensures (omega (arith, ap length c.new-writer.ensures.same)) whole in
     let written = search (rules, sym (whole.same_reference ∙ c.new-writer.ensures.same_reference)) ∙ memory in
     ap₂ (λ k bytes. (Ok k, bytes)) size written ∙ sym (cond-false _ _ _ (le-ltb _ _ fits))
