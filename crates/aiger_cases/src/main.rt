@@ -5,14 +5,34 @@
 use aiger::read;
 use circuit::{MAX_GATES, Reading};
 use faults::JobFault;
-use frames::{Frame, Frames};
+use frames::{Frame, FrameFault, Frames};
 use std::io;
 use std::io::Read;
 
 const MODULUS: u64 = 1_000_000_007;
 
 // No gate table needs more words; a line of the input that asks for more is an error.
-const MAX_WORDS: u32 = 2 * MAX_GATES;
+const MAX_WORDS: usize = 2 * MAX_GATES as usize;
+
+// Why the program fails.
+#[derive(Debug, Drop)]
+enum Fault {
+    Io,
+    // The line before a file, or its bytes.
+    Case,
+}
+
+impl From<io::Error> for Fault {
+    fn from(_e: io::Error) -> Fault {
+        Fault::Io
+    }
+}
+
+impl From<FrameFault> for Fault {
+    fn from(_e: FrameFault) -> Fault {
+        Fault::Case
+    }
+}
 
 // Prints the table, or a sum over it where it is long.
 fn print_table(rt: &HostRuntime, table: &[u32]) -> io::Result<()> {
@@ -50,16 +70,15 @@ fn print_case(rt: &HostRuntime, case: u32, file: &[u8], table: &mut [u32]) -> io
     print_table(rt, table)
 }
 
-fn main(rt: HostRuntime) -> io::Result<()> {
+fn main(rt: HostRuntime) -> Result<(), Fault> {
     let mut all = Vec::new(rt.alloc());
     rt.stdin().read_to_end(&mut all)?;
     for frame in Frames::new(all.as_slice()) {
         let Frame { number, file, room } = frame?;
-        if room > MAX_WORDS {
-            return Err(io::Error::from(io::ErrorKind::InvalidData));
-        }
-        let mut table = vec![in rt.alloc(); 7u32; room as usize]?;
-        print_case(&rt, number, file, table.as_mut_slice())?;
+        // On the stack, so that no case ends for want of memory.
+        let mut table = [7u32; MAX_WORDS];
+        let table = table.get_mut(..room as usize).ok_or(Fault::Case)?;
+        print_case(&rt, number, file, table)?;
     }
     Ok(())
 }

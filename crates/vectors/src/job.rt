@@ -1,10 +1,10 @@
 // One job in memory that is small, and that holds something else before.
+use crate::fault::Fault;
 use circuit::{Ternary, Word};
 use cubes::Entry;
 use faults::JobFault;
 use jobs::{Workspace, list};
 use std::alloc::{AllocError, Global};
-use std::io;
 
 // For 24 gates.
 const GATE_WORDS: usize = 48;
@@ -47,7 +47,7 @@ fn joined(heap: Global, text: &[u8]) -> Result<String, AllocError> {
 }
 
 // Prints the lines of the text, or the refusal.
-pub fn print_list(rt: &HostRuntime, file: &[u8], mode: u32, entries: usize) -> io::Result<()> {
+pub fn print_list(rt: &HostRuntime, file: &[u8], mode: u32, entries: usize) -> Result<(), Fault> {
     let heap = rt.alloc();
     let mut register = vec![in heap; Entry { care: 7, value: 7 }; entries]?;
     let mut text = vec![in heap; b'?'; TEXT_BYTES]?;
@@ -55,8 +55,9 @@ pub fn print_list(rt: &HostRuntime, file: &[u8], mode: u32, entries: usize) -> i
         Ok(size) => {
             text.truncate(size);
             let line = joined(heap, text.as_slice())?;
-            println!(rt; "{line}")
+            println!(rt; "{line}")?;
         }
-        Err(fault) => println!(rt; "{fault}"),
+        Err(fault) => println!(rt; "{fault}")?,
     }
+    Ok(())
 }

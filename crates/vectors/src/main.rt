@@ -2,14 +2,15 @@
 // of three numbers stands before a file: the case's number, the file's bytes and the register's entries.
 #![tactic(auto)]
 
+mod fault;
 mod job;
 
+use fault::Fault;
 use frames::{Frame, Frames};
 use job::print_list;
-use std::io;
 use std::io::Read;
 
-fn main(rt: HostRuntime) -> io::Result<()> {
+fn main(rt: HostRuntime) -> Result<(), Fault> {
     let mut all = Vec::new(rt.alloc());
     rt.stdin().read_to_end(&mut all)?;
     for frame in Frames::new(all.as_slice()) {
