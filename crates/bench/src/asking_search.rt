@@ -7,6 +7,11 @@ use search::Search;
 use std::io;
 use std::time::Instant;
 
+// More than the family's circuits need.
+const PLACES: usize = 128;
+
+const PAIRS: usize = 16;
+
 // Asks once, and prints whether a row came and, if asked for, the time.
 fn ask(
     rt: &HostRuntime,
@@ -37,15 +42,14 @@ fn ask(
 
 // Both wanted bits, with no barred entry and with the pairs' cubes barred.
 fn family_questions(rt: &HostRuntime, inputs: u32, timed: bool) -> io::Result<()> {
-    let heap = rt.alloc();
-    let family = Family::new(heap, inputs)?;
-    let pairs = family.pair_cubes(heap)?;
-    let circuit = family.circuit();
-    let mut values = vec![in heap; Ternary::Zero; circuit.places()]?;
-    let mut made = Search::make(circuit, values.as_mut_slice());
+    let family = Family::new(inputs);
+    let mut entries = [Entry { care: 0, value: 0 }; PAIRS];
+    let count = family.pair_cubes(&mut entries);
+    let mut values = [Ternary::Zero; PLACES];
+    let mut made = Search::make(family.circuit(), &mut values);
     for wanted in [false, true] {
         ask(rt, &mut made.search, wanted, &[], timed)?;
-        ask(rt, &mut made.search, wanted, pairs.as_slice(), timed)?;
+        ask(rt, &mut made.search, wanted, &entries[..count], timed)?;
     }
     Ok(())
 }

@@ -1,58 +1,67 @@
 // The timing family. Of n inputs, n - 1 divisible by 4, the last one chooses a half of the others:
 // the output is 1 where some pair of neighbours in the chosen half has two ones.
-ghost use Rattle.std.specs.Prelude.{◌≡◌, ◌+◌, ◌-◌, ◌/◌, ◌<◌, ◌≤◌};
+ghost use Rattle.std.specs.Prelude.{◌≡◌, ◌+◌, ◌-◌, ◌/◌, ◌<◌, ◌≤◌, length};
 
 use circuit::{Circuit, MAX_INPUTS, Reading};
 use cubes::Entry;
-use std::alloc::{AllocError, Global};
 
-#[derive(Drop)]
+// More than 30 inputs need.
+const GATES: usize = 64;
+
+// In arrays with a count, not in a `Vec`: a circuit of the family is there in any case, and can be copied.
+#[derive(Clone, Copy)]
 pub struct Family {
     inputs: u32,
     output: u32,
-    // The operands of each gate.
-    gates: Vec<[u32; 2]>,
+    // The operands of each gate, and how many gates there are.
+    gates: [[u32; 2]; GATES],
+    used: u32,
     ghost few: { inputs ≤ 30 },
+    ghost room: { used ≤ 64 },
 }
 
 impl Family {
-    pub fn new(heap: Global, inputs: u32) -> Result<Family, AllocError> {
+    pub fn new(inputs: u32) -> Family {
         let inputs = inputs.min(MAX_INPUTS);
         let mut family = Family {
             inputs,
             output: 0,
-            gates: Vec::new(heap),
+            gates: [[0; 2]; GATES],
+            used: 0,
         };
         let pairs = family.pairs();
         let chooser = 2 * inputs;
-        let first = family.half(1, pairs)?;
-        let second = family.half(2 * pairs + 1, pairs)?;
-        let chosen_first = family.and(first, chooser)?;
-        let chosen_second = family.and(second, chooser ^ 1)?;
-        family.output = family.or(chosen_first, chosen_second)?;
-        Ok(family)
+        let first = family.half(1, pairs);
+        let second = family.half(2 * pairs + 1, pairs);
+        let chosen_first = family.and(first, chooser);
+        let chosen_second = family.and(second, chooser ^ 1);
+        family.output = family.or(chosen_first, chosen_second);
+        family
     }
 
     pub fn circuit(&self) -> Circuit<'_> {
         let reading = Reading {
             inputs: self.inputs,
-            gates: self.gate_count(),
+            gates: self.used,
             output: self.output,
         };
-        Circuit::take_up(reading, self.gates.as_slice().as_flattened())
+        Circuit::take_up(reading, self.gates.as_flattened())
     }
 
-    // The cubes of all pairs, each in its half.
-    pub fn pair_cubes(&self, heap: Global) -> Result<Vec<Entry>, AllocError> {
+    // Puts the cubes of all pairs, with the half that each is in, into the first entries; none where there is no room.
+    pub fn pair_cubes(&self, entries: &mut [Entry]) -> usize
+        ensures { result ≤ length entries.old }
+    {
         let inputs = self.inputs;
         let pairs = self.pairs();
-        (0..2 * pairs)
-            .map(|k| pair_cube(inputs, 2 * k + 1, k < pairs))
-            .collect(heap)
-    }
-
-    fn gate_count(&self) -> u32 {
-        u32::try_from(self.gates.len()).unwrap_or(u32::MAX)
+        let count = 2 * pairs as usize;
+        if entries.len() < count {
+            return 0;
+        }
+        for k in 0..2 * pairs {
+            entries[k as usize] = pair_cube(inputs, 2 * k + 1, k < pairs);
+        }
+        count
     }
 
     // How many pairs each half has.
@@ -63,27 +72,31 @@ impl Family {
     }
 
     // The disjunction of some pairs of neighbours, from a variable on.
-    fn half(&mut self, variable: u32, pairs: u32) -> Result<u32, AllocError>
+    fn half(&mut self, variable: u32, pairs: u32) -> u32
         requires { (variable ≤ 30) × (pairs ≤ 8) }
     {
         let mut some = 0;
         for k in 0..pairs {
             let left = 2 * (variable + 2 * k);
-            let pair = self.and(left, left + 2)?;
-            some = self.or(some, pair)?;
+            let pair = self.and(left, left + 2);
+            some = self.or(some, pair);
         }
-        Ok(some)
+        some
     }
 
-    fn or(&mut self, a: u32, b: u32) -> Result<u32, AllocError> {
-        Ok(self.and(a ^ 1, b ^ 1)? ^ 1)
+    fn or(&mut self, a: u32, b: u32) -> u32 {
+        self.and(a ^ 1, b ^ 1) ^ 1
     }
 
-    // One gate more, and its literal.
-    fn and(&mut self, a: u32, b: u32) -> Result<u32, AllocError> {
-        self.gates.push([a.max(b), a.min(b)])?;
-        let variable = self.inputs.saturating_add(self.gate_count());
-        Ok(variable.saturating_mul(2))
+    // One gate more, and its literal; false where there is no room for it.
+    fn and(&mut self, a: u32, b: u32) -> u32 {
+        let at = self.used as usize;
+        if at >= GATES {
+            return 0;
+        }
+        self.gates[at] = [a.max(b), a.min(b)];
+        self.used += 1;
+        2 * (self.inputs + self.used)
     }
 }
 
