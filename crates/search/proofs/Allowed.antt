@@ -1,14 +1,14 @@
 -- What a branch gives the inputs allows each of its rows, and is settled where it is one row; so is what the output gives.
-use Rattle.std.proofs.Common.{◌≡◌, ℕ, ◌/◌, ◌%◌, ◌^◌, ◌<◌, Bool, true, false, cond, is_some, Option, refl, ap, ◌∙◌, eqb-true}
+use Rattle.std.proofs.Common.{◌≡◌, ℕ, ◌/◌, ◌%◌, ◌^◌, ◌<◌, ◌≤◌, Bool, zero, suc, eqb, ltb, true, false, cond, is_some, Option, refl, ap, ◌∙◌, eqb-true, arith}
 use mathlib.Core.Bool.{and-true}
 use borrow.Author.Tests.{clash}
-use Rattle.std.proofs.lemmas.Bool.{not-true}
+use Rattle.std.proofs.lemmas.Bool.{not-true, lt-ltb}
 use Rattle.circuit.specs.declared.ternary.Ternary.{Ternary}
 use Rattle.circuit.specs.declared.ternary.Ternary.TheVariants.{Zero, One, Unknown}
 use Rattle.circuit.specs.Kinds.{bit_at, ternary_allows, Settled, looked}
 use Rattle.cubes.specs.Cubes.{within}
 use Rattle.circuit.specs.Words.{and_bit}
-use Rattle.search.specs.Branches.{is_open, Single, Each, signal_of, Known}
+use Rattle.search.specs.Branches.{is_open, Single, Each, signal_of, told_at, Known}
 use Rattle.search.proofs.Opens.{shut_bit}
 
 -- a fixed input has the value's bit in each row
@@ -26,6 +26,17 @@ module _ (n care value k : ℕ) (lt : k < n) where
       by : (o : Bool) → is_open n care k ≡ o → ternary_allows (cond o Unknown (cond (bit_at value k) One Zero)) 0 (bit_at row k) ≡ true
       by true e = refl
       by false e = ap (λ b. ternary_allows (cond b One Zero) 0 (bit_at row k)) (fixed_bit care value row k w (shut_bit n care k lt e)) ∙ allows_own (bit_at row k)
+
+  pub told_signal : n ≤ 32 → told_at care value k ≡ signal_of n care value k
+  told_signal few =
+      let here : k % 32 ≡ k = omega arith in
+      let low : ltb k n ≡ true = lt-ltb k n lt in
+      rw (here, low) (by (care / 2 ^ k % 2) (omega arith) (cond (bit_at value k) One Zero))
+    where
+      by : (d : ℕ) → d < 2 → (t : Ternary) → cond (eqb d 1) t Unknown ≡ cond (eqb d 0) Unknown t
+      by zero h t = refl
+      by (suc zero) h t = refl
+      by (suc (suc d)) h t = absurd (omega arith)
 
   pub signal_settled : is_open n care k ≡ false → Settled (ternary_allows (signal_of n care value k) 0)
   signal_settled shut = ap (λ o. is_some (looked 1 (ternary_allows (cond o Unknown (cond (bit_at value k) One Zero))) 0)) shut ∙ by (bit_at value k)

@@ -57,6 +57,10 @@ pub record Ready (c : Netlist) (inputs places : ℕ) : Type 0 where
 abbrev pub signal_of : ℕ → ℕ → ℕ → ℕ → Ternary
 signal_of n care value k = cond (is_open n care k) Unknown (cond (bit_at value k) One Zero)
 
+-- the same by the bits alone, where a place past those of a number stands for another
+abbrev pub told_at : ℕ → ℕ → ℕ → Ternary
+told_at care value k = cond (bit_at care (k % 32)) (cond (bit_at value (k % 32)) One Zero) Unknown
+
 -- the bit that each row of the branch has in the set; it may stay unknown where the branch has more than one row
 abbrev pub Known : ℕ → ℕ → ℕ → (ℕ → Bool) → Option Bool → Type 0
 Known n care value set r = MatchOption r (Single n care → ⊥) (λ bit. Each n care value (λ row. set row ≡ bit))
