@@ -5,6 +5,7 @@ use cubes::Entry;
 use faults::JobFault;
 use jobs::{Workspace, list};
 use std::alloc::{AllocError, Global};
+use std::io::Write;
 
 // For 24 gates.
 const GATE_WORDS: usize = 48;
@@ -37,13 +38,21 @@ fn list_file(
     list(file, mode, workspace, register, text)
 }
 
-// The lines of a text, joined to one.
-fn joined(heap: Global, text: &[u8]) -> Result<String, AllocError> {
-    let text = String::from_utf8_lossy(heap, text)?;
-    match text.as_str().strip_suffix('\n') {
-        Some(lines) => lines.replace(heap, '\n', " / "),
-        None => String::from_str(heap, "no line end"),
+// The lines of a text, joined to one. Byte by byte, so that it takes no more memory than the line.
+fn joined(heap: Global, text: &[u8]) -> Result<Vec<u8>, AllocError> {
+    let mut line = Vec::new(heap);
+    let Some(lines) = text.strip_suffix(b"\n") else {
+        line.extend_from_slice(b"no line end")?;
+        return Ok(line);
+    };
+    for byte in lines {
+        if *byte == b'\n' {
+            line.extend_from_slice(b" / ")?;
+        } else {
+            line.push(*byte)?;
+        }
     }
+    Ok(line)
 }
 
 // Prints the lines of the text, or the refusal.
@@ -54,8 +63,8 @@ pub fn print_list(rt: &HostRuntime, file: &[u8], mode: u32, entries: usize) -> R
     match list_file(file, mode, register.as_mut_slice(), text.as_mut_slice()) {
         Ok(size) => {
             text.truncate(size);
-            let line = joined(heap, text.as_slice())?;
-            println!(rt; "{line}")?;
+            rt.stdout().write_all(&joined(heap, &text)?)?;
+            println!(rt)?;
         }
         Err(fault) => println!(rt; "{fault}")?,
     }
