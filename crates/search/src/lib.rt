@@ -9,6 +9,8 @@ mod choice;
 mod descent;
 mod making;
 mod signals;
+#[cfg(test)]
+mod tests;
 mod verdict;
 
 pub use making::{Made, Search};
