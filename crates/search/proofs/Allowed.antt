@@ -1,12 +1,10 @@
 -- What a branch gives the inputs allows each of its rows, and is settled where it is one row; so is what the output gives.
 use Rattle.std.proofs.Common.{◌≡◌, ℕ, ◌/◌, ◌%◌, ◌^◌, ◌<◌, ◌≤◌, Bool, zero, suc, eqb, ltb, true, false, cond, is_some, Option, refl, ap, ◌∙◌, eqb-true, arith}
 use Rattle.std.proofs.Common.{◌-◌, inl, inr, le-ltb, max, bit_or, w32, pow_mono}
-use native.Mathlib.Nat.{div-eq_of_lt}
 use Rattle.std.proofs.lemmas.Bool.{cases_lt}
 use Rattle.std.specs.Int as Int
 use mathlib.Core.Bool.{and-true}
 use Rattle.std.proofs.lemmas.Nat.Bits.{bit_at_or, bit_at_not, bit_at_ones, bit_at_ones_above, bit_at-lt}
-use Rattle.std.proofs.Math.Nat.{max-zero}
 use borrow.Author.Tests.{clash}
 use Rattle.std.proofs.lemmas.Bool.{not-true, lt-ltb}
 use Rattle.circuit.specs.declared.ternary.Ternary.{Ternary}
@@ -63,11 +61,8 @@ looked_known n care value set v r e allows settles = rw e (by v allows settles)
     by One a s = a
     by Unknown a s = λ single. clash (s single)
 
--- by the bits alone, where each place past the inputs is fixed, and to 0
-module _ (n care value k : ℕ) (few : n ≤ 32) (small : k < 32) (less : value < 2 ^ n) where
-  max_one : (d : ℕ) → d < 2 → max d 1 ≡ 1
-  max_one d h = omega arith
-
+-- by the bits alone, where each place past the inputs is fixed
+module _ (n care value k : ℕ) (few : n ≤ 32) (small : k < 32) where
   abbrev all_shut : ℕ
   all_shut = bit_or care (4294967295 - (2 ^ n - 1))
 
@@ -79,17 +74,15 @@ module _ (n care value k : ℕ) (few : n ≤ 32) (small : k < 32) (less : value 
   told_below : k < n → told_at all_shut value k ≡ signal_of n care value k
   told_below below =
       let here : k % 32 ≡ k = omega arith in
-      let kept : Int.bit_at all_shut k ≡ Int.bit_at care k = shut_at ∙ ap (λ d. max (Int.bit_at care k) (1 - d)) (bit_at_ones n k below) ∙ max-zero _ in
+      let kept : Int.bit_at all_shut k ≡ Int.bit_at care k = omega (arith, shut_at, bit_at_ones n k below) in
       rw here (ap (λ d. cond (eqb d 1) (cond (bit_at value k) One Zero) Unknown) kept) ∙ told_signal n care value k below few
 
   told_past : n ≤ k → told_at all_shut value k ≡ signal_of n care value k
   told_past past =
       let here : k % 32 ≡ k = omega arith in
-      let shut : Int.bit_at all_shut k ≡ 1 = shut_at ∙ ap (λ d. max (Int.bit_at care k) (1 - d)) (bit_at_ones_above n k past) ∙ max_one _ (bit_at-lt care k) in
-      let far : 2 ^ n ≤ 2 ^ k = pow_mono past in
-      let none : value / 2 ^ k ≡ 0 = div-eq_of_lt (omega (arith, far)) in
+      let shut : Int.bit_at all_shut k ≡ 1 = omega (arith, shut_at, bit_at_ones_above n k past, bit_at-lt care k) in
       let high : ltb k n ≡ false = le-ltb k n past in
-      rw (here, shut, none, high) refl
+      rw (here, shut, high) refl
 
   pub told_shut : told_at all_shut value k ≡ signal_of n care value k
   told_shut = elim (cases_lt k n) [ inl below ↦ told_below below | inr past ↦ told_past past ]

@@ -9,7 +9,7 @@ pub returns-then-place-lt-BITS : goal.returns-then-place-lt-BITS
 returns-then-place-lt-BITS c =
     let b = c.args.self in
     rw (c.care.ensures, c.value.ensures, c.all_fixed.ensures, c.inputs.ensures) at c.told.ensures
-    ∙ told_shut b.inputs b.care b.value c.args.place (omega (arith, b.few)) c.if-place-lt-BITS.true (value_below b.value b.care b.inputs b.below b.inside)
+    ∙ told_shut b.inputs b.care b.value c.args.place (omega (arith, b.few)) c.if-place-lt-BITS.true
 
 pub returns-else-place-lt-BITS : goal.returns-else-place-lt-BITS
 returns-else-place-lt-BITS c =
